@@ -1,0 +1,12 @@
+// The digest of a slice, exported for the benchmark under host/: `rt staticlib digest_c`.
+ghost use mathlib.Core.Path.{_≡_};
+ghost use Rattle.digest.specs.Hash.{digest};
+ghost use Rattle.digest.specs.Sha256.{sha256};
+
+// Writes the SHA-256 digest of a part.
+#[no_mangle]
+pub extern "C" fn trewizlow_digest(part: &[u8], out: &mut [u8; 32])
+    ensures { λ _. ⌜ now (out .exit) ≡ digest sha256 (now (part .entry)) ⌝ }
+{
+    *out = digest::digest(part);
+}

@@ -1,0 +1,95 @@
+-- Pieces are whole blocks, so what is left has n % 64 bytes. The table is `k256` by computation. Assumes nothing.
+use Prim.Native.Nat.{_-_, _/_, _≤_}
+use mathlib.Core.Path.{refl}
+use borrow.Author.Needs.{needs}
+use Rattle.digest.specs.Sha256.{k256}
+use Rattle.digest_vectors.proofs.print_pieces.Statement.{statement}
+use Rattle.digest_vectors.proofs.print_pieces.Tie as tie
+
+abbrev Inv-loop : tie.InvT-loop
+Inv-loop piece n k v₀ i₀ v i = i ≤ n / 8192
+
+abbrev μ-loop : tie.MeasureT-loop
+μ-loop piece n k v₀ i₀ v i = n / 8192 - i
+
+loop-holds : tie.Need-loop-holds Inv-loop μ-loop
+loop-holds c = search needs
+
+absorb-requires : tie.Need-absorb-requires Inv-loop μ-loop
+unfolding k256
+absorb-requires c κs = refl
+
+add-i : tie.Need-add-i Inv-loop μ-loop
+add-i c = search needs
+
+loop-less : tie.Need-loop-less Inv-loop μ-loop
+loop-less c = search needs
+
+loop-again : tie.Need-loop-again Inv-loop μ-loop
+loop-again c = search needs
+
+mul-at : tie.Need-mul-at Inv-loop μ-loop
+mul-at c = search needs
+
+sub-absorb : tie.Need-sub-absorb Inv-loop μ-loop
+sub-absorb c = search needs
+
+part-absorb-start : tie.Need-part-absorb-start Inv-loop μ-loop
+part-absorb-start c = search needs
+
+part-absorb-end : tie.Need-part-absorb-end Inv-loop μ-loop
+part-absorb-end c = search needs
+
+absorb-requires-2 : tie.Need-absorb-requires-2 Inv-loop μ-loop
+unfolding k256
+absorb-requires-2 c κs = refl
+
+sub-finish : tie.Need-sub-finish Inv-loop μ-loop
+sub-finish c = search needs
+
+part-finish-start : tie.Need-part-finish-start Inv-loop μ-loop
+part-finish-start c = search needs
+
+part-finish-end : tie.Need-part-finish-end Inv-loop μ-loop
+part-finish-end c = search needs
+
+finish-requires : tie.Need-finish-requires Inv-loop μ-loop
+unfolding k256
+finish-requires c κs = (search needs, refl)
+
+write-value-requires : tie.Need-write-value-requires Inv-loop μ-loop
+write-value-requires c κs = search needs
+
+slice-aggregate-print-bytes : tie.Need-slice-aggregate-print-bytes Inv-loop μ-loop
+slice-aggregate-print-bytes c = search needs
+
+print-bytes-requires : tie.Need-print-bytes-requires Inv-loop μ-loop
+print-bytes-requires c κs = search needs
+
+returns : tie.Need-returns Inv-loop μ-loop
+returns c = search needs
+
+pub print-pieces-spec : {M : Type 1} → statement M
+print-pieces-spec =
+    tie.close
+    (tie.spec
+    Inv-loop
+    μ-loop
+    loop-holds
+    absorb-requires
+    add-i
+    loop-less
+    loop-again
+    mul-at
+    sub-absorb
+    part-absorb-start
+    part-absorb-end
+    absorb-requires-2
+    sub-finish
+    part-finish-start
+    part-finish-end
+    finish-requires
+    write-value-requires
+    slice-aggregate-print-bytes
+    print-bytes-requires
+    returns)

@@ -1,0 +1,46 @@
+-- A byte past the end, and one more byte of a number: what the readers share.
+use Prim.Native.Nat.{ℕ, _+_, _-_, _*_, _^_, _<_, _≤_}
+use mathlib.Core.List.{List}
+use mathlib.Core.Path.{_≡_, refl, sym}
+use native.Mathlib.Nat.{pow-suc, pow-le-pow-right}
+use native.Mathlib.Numerals.{add-one}
+use native.Mathlib.Omega.{arith}
+use lib.ListN.{length, getD, List·getD-eq-default}
+use Rattle.endian.specs.Numbers.{big, little}
+
+-- a byte past the end counts as 0
+pub past : (s : List ℕ) (at : ℕ) → length s ≤ at → 0 ≡ getD s at 0
+past s at h = sym (List·getD-eq-default s 0 h)
+
+-- below 256 to the i, with one byte more, is below 256 to the i + 1
+pub grows : (i n b : ℕ) → n < 256 ^ i → b < 256 → n * 256 + b < 256 ^ (i + 1)
+grows i n b h l = rw (add-one i, pow-suc 256 i) (omega arith)
+
+-- .. and fits 64 bits, where i is below 8
+pub fits : (i n b : ℕ) → i < 8 → n < 256 ^ i → b < 256 → n * 256 + b < 18446744073709551616
+fits i n b w h l =
+    let k : i ≤ 7 = omega arith in
+    let p : 256 ^ i ≤ 256 ^ 7 = pow-le-pow-right {n = 256} (omega arith) k in
+    omega arith
+
+pub big-none : (s : List ℕ) (at : ℕ) → 0 ≡ big 0 s at
+unfolding big
+big-none s at = refl
+
+pub little-none : (s : List ℕ) (at : ℕ) → 0 ≡ little 0 s at
+unfolding little
+little-none s at = refl
+
+-- big-endian: the next byte is the one after the first i
+pub big-more : (s : List ℕ) (at i n b : ℕ) → n ≡ big i s at → b ≡ getD s (at + i) 0 → n * 256 + b ≡ big (i + 1) s at
+unfolding big
+big-more s at i n b p q = rw (add-one i) (omega arith)
+
+-- little-endian: the next byte is the one before the last i
+pub little-more : (s : List ℕ) (at w i n b : ℕ) → i < w → n ≡ little i s (at + (w - i)) → b ≡ getD s (at + (w - 1 - i)) 0
+    → n * 256 + b ≡ little (i + 1) s (at + (w - (i + 1)))
+unfolding little
+little-more s at w i n b h p q =
+    let e : at + (w - (i + 1)) ≡ at + (w - 1 - i) = omega arith in
+    let f : at + (w - 1 - i) + 1 ≡ at + (w - i) = omega arith in
+    rw (e, add-one i, f) (omega arith)

@@ -1,0 +1,69 @@
+-- The CodeDirectory: its fields by byte, big-endian. `d` is the directory's blob; a byte past its end counts as 0.
+use Prim.Native.Nat.{ℕ, _<_}
+use mathlib.Core.List.{List}
+use mathlib.Core.Path.{_≡_}
+use lib.ListN.{getD}
+use Rattle.endian.specs.Numbers.{big}
+use Rattle.layout.specs.declared.directory.CodeDirectory.{CodeDirectory}
+
+unfoldable pub version : List ℕ → ℕ
+version d = big 4 d 8
+
+unfoldable pub flags : List ℕ → ℕ
+flags d = big 4 d 12
+
+unfoldable pub hashOffset : List ℕ → ℕ
+hashOffset d = big 4 d 16
+
+unfoldable pub identOffset : List ℕ → ℕ
+identOffset d = big 4 d 20
+
+unfoldable pub nSpecialSlots : List ℕ → ℕ
+nSpecialSlots d = big 4 d 24
+
+unfoldable pub nCodeSlots : List ℕ → ℕ
+nCodeSlots d = big 4 d 28
+
+unfoldable pub codeLimit : List ℕ → ℕ
+codeLimit d = big 4 d 32
+
+unfoldable pub hashSize : List ℕ → ℕ
+hashSize d = getD d 36 0
+
+unfoldable pub hashType : List ℕ → ℕ
+hashType d = getD d 37 0
+
+unfoldable pub platform : List ℕ → ℕ
+platform d = getD d 38 0
+
+unfoldable pub pageSize : List ℕ → ℕ
+pageSize d = getD d 39 0
+
+unfoldable pub codeLimit64 : List ℕ → ℕ
+codeLimit64 d = big 8 d 56
+
+-- what the constructor reads
+pub record DirectoryRead (d : List ℕ) (h : CodeDirectory) : Type 0 where
+  pub version-is : h .version ≡ version d
+  pub flags-is : h .flags ≡ flags d
+  pub hashOffset-is : h .«hash_offset» ≡ hashOffset d
+  pub identOffset-is : h .«ident_offset» ≡ identOffset d
+  pub nSpecialSlots-is : h .«special_slots» ≡ nSpecialSlots d
+  pub nCodeSlots-is : h .«code_slots» ≡ nCodeSlots d
+  pub codeLimit-is : h .«code_limit» ≡ codeLimit d
+  pub hashSize-is : h .«hash_size» ≡ hashSize d
+  pub hashType-is : h .«hash_type» ≡ hashType d
+  pub platform-is : h .platform ≡ platform d
+  pub pageSize-is : h .«page_shift» ≡ pageSize d
+  pub codeLimit64-is : h .«code_limit64» ≡ codeLimit64 d
+  pub version-below : h .version < 4294967296
+  pub flags-below : h .flags < 4294967296
+  pub hashOffset-below : h .«hash_offset» < 4294967296
+  pub identOffset-below : h .«ident_offset» < 4294967296
+  pub nSpecialSlots-below : h .«special_slots» < 4294967296
+  pub nCodeSlots-below : h .«code_slots» < 4294967296
+  pub codeLimit-below : h .«code_limit» < 4294967296
+  pub hashSize-below : h .«hash_size» < 256
+  pub hashType-below : h .«hash_type» < 256
+  pub platform-below : h .platform < 256
+  pub pageSize-below : h .«page_shift» < 256

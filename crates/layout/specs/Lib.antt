@@ -1,0 +1,3 @@
+pub mod SuperBlob
+pub mod CodeDirectory
+pub mod TrustCache

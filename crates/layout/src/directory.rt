@@ -1,0 +1,52 @@
+// The CodeDirectory, a blob of the signature, big-endian: a head whose size follows from the version, the identifier,
+// and the slots, each the hash of one thing: the special slots end at hashOffset, and the code slots start there.
+ghost use Rattle.layout.specs.CodeDirectory.{DirectoryRead};
+use crate::superblob::Blob;
+
+// The fields of the head that document 01 lists, in their order. Offsets count from the directory's start.
+pub struct CodeDirectory {
+    pub version: usize,
+    pub flags: usize,
+    pub hash_offset: usize,
+    pub ident_offset: usize,
+    pub special_slots: usize,
+    pub code_slots: usize,
+    pub code_limit: usize,
+    pub hash_size: usize,
+    pub hash_type: usize,
+    pub platform: usize,
+    // The page size is 2 to this, or the whole code limit where this is 0 (`pageSize` in Apple's header).
+    pub page_shift: usize,
+    // A field from version 0x20300 on. In an older directory these bytes are something else.
+    pub code_limit64: u64,
+}
+
+impl CodeDirectory {
+    pub const MAGIC: usize = Blob::CODEDIRECTORY;
+
+    // Bytes of a slot: a SHA-256 hash.
+    pub const SLOT: usize = 32;
+
+    // Bytes that hold the version.
+    pub const VERSION_END: usize = 12;
+
+    // The directory whose blob is d.
+    pub fn read(d: &[u8]) -> CodeDirectory
+        ensures { λ r. ⌜ DirectoryRead (now (d .entry)) r ⌝ }
+    {
+        CodeDirectory {
+            version: endian::be32(d, 0, 8),
+            flags: endian::be32(d, 0, 12),
+            hash_offset: endian::be32(d, 0, 16),
+            ident_offset: endian::be32(d, 0, 20),
+            special_slots: endian::be32(d, 0, 24),
+            code_slots: endian::be32(d, 0, 28),
+            code_limit: endian::be32(d, 0, 32),
+            hash_size: endian::byte(d, 0, 36),
+            hash_type: endian::byte(d, 0, 37),
+            platform: endian::byte(d, 0, 38),
+            page_shift: endian::byte(d, 0, 39),
+            code_limit64: endian::be64(d, 0, 56),
+        }
+    }
+}

@@ -1,0 +1,7 @@
+pub mod Refusals
+pub mod Conditions
+pub mod Exact
+pub mod Positions
+pub mod Several
+pub mod Joined
+pub mod Ranges

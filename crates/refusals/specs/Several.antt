@@ -1,0 +1,40 @@
+-- Laws of a test over positions that gives several numbers: all its rows pass exactly when no position has a fault.
+use Prim.Native.Nat.{ℕ, _<_}
+use mathlib.Core.List.{List, [], _∷_}
+use mathlib.Core.Bool.{Bool, true, false}
+use mathlib.Core.Path.{_≡_, refl}
+use mathlib.Core.Logic.{_⊎_, ⊎-elim}
+use lib.Dec.{ltb}
+use borrow.Author.Tests.{ltb-true, ltb-false}
+use native.Mathlib.Omega.{arith}
+use Rattle.refusals.specs.Refusals.{lowest, faulty, among, Passes}
+use Rattle.refusals.specs.Conditions.{said}
+use Rattle.refusals.specs.Positions.{none-fails, lowest-below, lowest-fails}
+
+-- x is one of the numbers, or 0
+abbrev pub OneOf : List ℕ → ℕ → Type 0
+OneOf [] x = x ≡ 0
+OneOf (n ∷ ns) x = (x ≡ n) ⊎ OneOf ns x
+
+pub clear-passes : (b : ℕ) (fault : ℕ → ℕ) (ns : List ℕ) → ((i : ℕ) → i < b → fault i ≡ 0) → Passes (among b fault ns)
+clear-passes b fault [] h = tt
+clear-passes b fault (n ∷ ns) h =
+    let e = none-fails (faulty fault) b h in
+    ((λ l. absurd (omega arith)), clear-passes b fault ns h)
+
+module _ (b : ℕ) (fault : ℕ → ℕ) where
+  abbrev q : ℕ
+  q = lowest (faulty fault) b
+
+  none : q < b → (ns : List ℕ) → OneOf ns (fault q) → Passes (among b fault ns) → fault q ≡ 0
+  none m [] k p = k
+  none m (n ∷ ns) k p = ⊎-elim (λ e. absurd (p .0 m e)) (λ k'. none m ns k' (p .1)) k
+
+  pub passes-clear : (ns : List ℕ) → ((i : ℕ) → i < b → OneOf ns (fault i)) → Passes (among b fault ns) → (i : ℕ) → i < b → fault i ≡ 0
+  passes-clear ns known h i l = by-test (ltb q b) refl
+    where
+      by-test : (t : Bool) → ltb q b ≡ t → fault i ≡ 0
+      by-test true e =
+          let m = ltb-true q b e in
+          absurd (said true (faulty fault q) (lowest-fails (faulty fault) b m) (none m ns (known q m) h))
+      by-test false e = said false (faulty fault i) (lowest-below (faulty fault) b (ltb-false q b e) i l)

@@ -1,0 +1,10 @@
+// The answer of a check: a number of the table of refusals and a place.
+//
+// How the table decides is stated in specs/Refusals.antt; specs/Exact.antt proves that each number is given exactly when its own row is the
+// first to hold.
+
+// A refusal number with its place, or 0 where nothing is refused.
+pub struct Answer {
+    pub number: u32,
+    pub place: usize,
+}

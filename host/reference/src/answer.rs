@@ -1,0 +1,21 @@
+//! What a call answers: a number of document 01's table and a place.
+
+/// Number 0 is accepted; every other number is a refusal.
+#[derive(Clone, Copy, Debug, PartialEq, Eq)]
+pub struct Answer {
+    pub number: u32,
+    pub place: u64,
+}
+
+/// The answer 0 with place 0.
+pub const DONE: Answer = Answer { number: 0, place: 0 };
+
+/// A refusal for which the table states no place.
+pub fn refuse<T>(number: u32) -> Result<T, Answer> {
+    refuse_at(number, 0)
+}
+
+/// A refusal for which the table states a place.
+pub fn refuse_at<T>(number: u32, place: u64) -> Result<T, Answer> {
+    Err(Answer { number, place })
+}

@@ -1,0 +1,183 @@
+//! The code directory: tests 10 to 18, its fields, and where its slots lie.
+//!
+//! All numbers are big-endian and all offsets count from the directory's start.
+
+use crate::answer::{refuse, Answer};
+use crate::bytes::{be32, be64, part, u8_at};
+use crate::pages;
+use crate::sha256;
+use crate::superblob;
+
+pub const SLOT: u64 = 32;
+pub const CS_HASHTYPE_SHA256: u64 = 2;
+pub const CSSLOT_CODEDIRECTORY: u64 = 0;
+pub const MOST_CODE_SLOTS: u64 = 65_536;
+pub const MOST_SPECIAL_SLOTS: u64 = 11;
+/// Bytes of the directory's hash that a trust cache lists.
+pub const CS_CDHASH_LEN: usize = 20;
+/// The first version that has codeLimit64.
+const WITH_CODE_LIMIT_64: u64 = 0x20300;
+/// The end of the version field: a shorter directory has no version to test.
+const VERSION_END: u64 = 12;
+
+/// The head size of a version; none outside 0x20001 to 0x20600.
+pub fn head_size(version: u64) -> Option<u64> {
+    match version {
+        0x20001..=0x200FF => Some(44),
+        0x20100..=0x201FF => Some(48),
+        0x20200..=0x202FF => Some(52),
+        0x20300..=0x203FF => Some(64),
+        0x20400..=0x204FF => Some(88),
+        0x20500..=0x205FF => Some(96),
+        0x20600 => Some(108),
+        _ => None,
+    }
+}
+
+/// The first 20 bytes of a directory's hash.
+pub fn cut(hash: [u8; 32]) -> [u8; CS_CDHASH_LEN] {
+    std::array::from_fn(|i| hash[i])
+}
+
+/// A directory's blob, head included, and where it starts in the signature.
+#[derive(Clone, Copy, Debug)]
+pub struct Directory<'a> {
+    pub bytes: &'a [u8],
+    pub start: u64,
+}
+
+impl<'a> Directory<'a> {
+    pub fn length(&self) -> u64 {
+        self.bytes.len() as u64
+    }
+    pub fn version(&self) -> u64 {
+        be32(self.bytes, 8)
+    }
+    pub fn flags(&self) -> u64 {
+        be32(self.bytes, 12)
+    }
+    pub fn hash_offset(&self) -> u64 {
+        be32(self.bytes, 16)
+    }
+    pub fn ident_offset(&self) -> u64 {
+        be32(self.bytes, 20)
+    }
+    pub fn special_slots(&self) -> u64 {
+        be32(self.bytes, 24)
+    }
+    pub fn code_slots(&self) -> u64 {
+        be32(self.bytes, 28)
+    }
+    pub fn code_limit(&self) -> u64 {
+        be32(self.bytes, 32)
+    }
+    pub fn hash_size(&self) -> u64 {
+        u8_at(self.bytes, 36)
+    }
+    pub fn hash_type(&self) -> u64 {
+        u8_at(self.bytes, 37)
+    }
+    pub fn platform(&self) -> u64 {
+        u8_at(self.bytes, 38)
+    }
+    /// The pageSize field: the power of two, or 0 for one page.
+    pub fn page_shift(&self) -> u64 {
+        u8_at(self.bytes, 39)
+    }
+    /// P.
+    pub fn page_size(&self) -> u64 {
+        pages::page_size(self.page_shift(), self.code_limit())
+    }
+
+    /// Where code slot i lies.
+    fn code_slot_start(&self, i: u64) -> u64 {
+        self.hash_offset() + SLOT * i
+    }
+
+    /// The 32 bytes of code slot i.
+    pub fn code_slot(&self, i: u64) -> &'a [u8] {
+        part(self.bytes, self.code_slot_start(i), SLOT)
+    }
+
+    /// Special slot k, k from 1; none where it is empty.
+    pub fn special_slot(&self, k: u64) -> Option<&'a [u8]> {
+        if k > self.special_slots() {
+            return None;
+        }
+        let slot = part(self.bytes, self.hash_offset() - SLOT * k, SLOT);
+        slot.iter().any(|&byte| byte != 0).then_some(slot)
+    }
+
+    /// Bytes of the identifier before its zero byte; none where no zero byte follows.
+    pub fn ident_length(&self) -> Option<u64> {
+        let rest = self.bytes.get(self.ident_offset() as usize..)?;
+        rest.iter().position(|&byte| byte == 0).map(|at| at as u64)
+    }
+
+    /// The hash of the whole blob, cut.
+    pub fn cdhash(&self) -> [u8; CS_CDHASH_LEN] {
+        cut(sha256::digest(self.bytes))
+    }
+
+    /// Test 16.
+    fn counts_wrong(&self) -> bool {
+        self.code_slots() != pages::page_count(self.page_shift(), self.code_limit())
+            || self.code_slots() > MOST_CODE_SLOTS
+            || self.special_slots() > MOST_SPECIAL_SLOTS
+    }
+
+    /// Test 17, slot by slot. Without slots nothing reaches anywhere, so hashOffset is
+    /// then free. Signed numbers, as a special slot may start below 0.
+    fn slot_outside(&self, head: u64) -> bool {
+        let (head, length) = (head as i128, self.length() as i128);
+        let (base, slot) = (self.hash_offset() as i128, SLOT as i128);
+        let special = 1..=self.special_slots() as i128;
+        let code = 0..self.code_slots() as i128;
+        let starts = special.map(|k| base - slot * k).chain(code.map(|i| base + slot * i));
+        starts.into_iter().any(|start| start < head || start + slot > length)
+    }
+}
+
+/// Tests 1 to 18.
+pub fn read(signature: &[u8], side_file_too_long: bool) -> Result<Directory<'_>, Answer> {
+    superblob::test(signature, side_file_too_long)?;
+    let Some((start, length)) = superblob::place_of(signature, CSSLOT_CODEDIRECTORY) else {
+        return refuse(10);
+    };
+    let directory = Directory { bytes: part(signature, start, length), start };
+    test(&directory)?;
+    Ok(directory)
+}
+
+/// Tests 11 to 18. From 12 bytes on the version is tested first, so a directory of
+/// 12 bytes with a version outside the ranges is 11.
+fn test(directory: &Directory) -> Result<(), Answer> {
+    if directory.length() < VERSION_END {
+        return refuse(12);
+    }
+    let Some(head) = head_size(directory.version()) else {
+        return refuse(11);
+    };
+    if directory.length() < head {
+        return refuse(12);
+    }
+    if directory.hash_type() != CS_HASHTYPE_SHA256 || directory.hash_size() != SLOT {
+        return refuse(13);
+    }
+    if ![0, 12, 14].contains(&directory.page_shift()) {
+        return refuse(14);
+    }
+    if directory.version() >= WITH_CODE_LIMIT_64 && be64(directory.bytes, 56) != 0 {
+        return refuse(15);
+    }
+    if directory.counts_wrong() {
+        return refuse(16);
+    }
+    if directory.slot_outside(head) {
+        return refuse(17);
+    }
+    if directory.ident_offset() < head || directory.ident_length().is_none() {
+        return refuse(18);
+    }
+    Ok(())
+}

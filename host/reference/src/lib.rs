@@ -1,0 +1,24 @@
+//! An independent checker of signed Mach-O images, written from document 01 alone.
+//!
+//! It shares no code with the proved library. Its answers are what the library's
+//! answers are compared with. Tests stand in the paper's order under their numbers,
+//! and nothing is done for speed.
+
+pub mod answer;
+pub mod bytes;
+pub mod cache;
+pub mod cases;
+pub mod check;
+pub mod corpus;
+pub mod directory;
+pub mod inputs;
+pub mod launch;
+pub mod make;
+pub mod pages;
+pub mod random;
+pub mod recheck;
+pub mod sha256;
+pub mod slots;
+pub mod small;
+pub mod subjects;
+pub mod superblob;
