@@ -2,13 +2,15 @@
 use Prim.Native.Nat.{ℕ, _<_}
 use mathlib.Core.List.{List, [], _∷_}
 use mathlib.Core.Bool.{Bool, true, false}
-use mathlib.Core.Path.{_≡_, refl}
+use mathlib.Core.Path.{_≡_, refl, sym, ap, _∙_}
 use mathlib.Core.Logic.{_⊎_, ⊎-elim}
-use lib.Dec.{ltb}
-use borrow.Author.Tests.{ltb-true, ltb-false}
+use lib.Dec.{ltb, eqb}
+use borrow.Author.Tests.{ltb-true, ltb-false, eqb-true, eqb-false}
 use native.Mathlib.Omega.{arith}
-use Rattle.refusals.specs.Refusals.{lowest, faulty, among, Passes}
+use Rattle.refusals.specs.Refusals.{lowest, faulty, among, Passes, Decides, either, refuse, first}
+use Rattle.refusals.specs.declared.Answer.{Answer}
 use Rattle.refusals.specs.Conditions.{said}
+use Rattle.refusals.specs.Exact.{decides}
 use Rattle.refusals.specs.Positions.{none-fails, lowest-below, lowest-fails}
 
 -- x is one of the numbers, or 0
@@ -38,3 +40,21 @@ module _ (b : ℕ) (fault : ℕ → ℕ) where
           let m = ltb-true q b e in
           absurd (said true (faulty fault q) (lowest-fails (faulty fault) b m) (none m ns (known q m) h))
       by-test false e = said false (faulty fault i) (lowest-below (faulty fault) b (ltb-false q b e) i l)
+
+  decides-at : (ns : List ℕ) → q < b → (n : ℕ) → n ≡ fault q → (n ≡ 0 → ⊥) → OneOf ns n → Decides (among b fault ns) n q
+  decides-at [] l n e z k = absurd (z k)
+  decides-at (m ∷ ns) l n e z k = by-test (eqb m n) refl (decides-at ns l n e z)
+    where
+      by-test : (t : Bool) → eqb m n ≡ t → (OneOf ns n → Decides (among b fault ns) n q)
+          → either t (((q < b) × (fault q ≡ m)) × (q ≡ q)) ((q < b → fault q ≡ m → ⊥) × Decides (among b fault ns) n q)
+      by-test true g f = ((l, sym e ∙ sym (eqb-true m n g)), refl)
+      by-test false g f = (
+        (λ l' h. eqb-false m n g (sym h ∙ sym e)),
+        f (⊎-elim (λ p. absurd (eqb-false m n g (sym p))) (λ r. r) k),
+      )
+
+  -- the lowest position with a fault gives its number and its place
+  pub fault-decides : (ns : List ℕ) (done : Answer) (n p : ℕ) → p ≡ q → p < b → n ≡ fault p → (n ≡ 0 → ⊥) → OneOf ns n
+      → refuse n p ≡ first (among b fault ns) done
+  fault-decides ns done n p e l f z k =
+      rw e (decides (among b fault ns) done n q (decides-at ns (rw e at l) n (f ∙ ap fault e) z k))

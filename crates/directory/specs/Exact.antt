@@ -1,0 +1,22 @@
+-- The table of tests 1 to 18 is exact: each number is given exactly when its own row is the first to hold, and 0 exactly when none holds.
+use Prim.Native.Nat.{ℕ}
+use mathlib.Core.List.{List}
+use mathlib.Core.Path.{_≡_, sym, ap}
+use Rattle.refusals.specs.declared.Answer.{Answer}
+use Rattle.refusals.specs.Refusals.{Decides, Passes, refuse, first, accepted}
+use Rattle.refusals.specs.Exact.{decides, decided, passes, passed}
+use Rattle.directory.specs.Rows.{signatureRows, signatureRows-unused, signatureRows-distinct}
+
+-- the answer is n at p exactly when row n holds with place p and no row before it holds
+pub exactly : (side : ℕ) (s : List ℕ) (n p : ℕ) → (n ≡ 0 → ⊥) → (refuse n p ≡ first (signatureRows side s) accepted → Decides (signatureRows side s) n p) × (Decides (signatureRows side s) n p → refuse n p ≡ first (signatureRows side s) accepted)
+exactly side s n p ne = (
+  decided (signatureRows side s) accepted n p (signatureRows-distinct side s) (λ e. ne (sym e)),
+  decides (signatureRows side s) accepted n p,
+)
+
+-- .. and 0 at 0 exactly when no row holds
+pub exactly-accepted : (side : ℕ) (s : List ℕ) → (accepted ≡ first (signatureRows side s) accepted → Passes (signatureRows side s)) × (Passes (signatureRows side s) → accepted ≡ first (signatureRows side s) accepted)
+exactly-accepted side s = (
+  (λ e. passed (signatureRows side s) accepted 0 (signatureRows-unused side s) (sym (ap (λ (a : Answer). a .number) e))),
+  passes (signatureRows side s) accepted,
+)

@@ -1,0 +1,6 @@
+pub mod Pages
+pub mod Rows
+pub mod Slots
+pub mod Formed
+pub mod Exact
+pub mod Measured

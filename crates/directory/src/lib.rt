@@ -1,0 +1,306 @@
+// The CodeDirectory of a signature: tests 10 to 18 of document 01, its fields and its slots.
+//
+// The directory is the blob of type 0. It is refused where its version has no head size, where its head, a slot or the
+// identifier does not lie inside it, where its hash is not SHA-256, and where its slots are not those that its code limit
+// asks for. The table of tests is specs/Rows.antt, its pages specs/Pages.antt.
+ghost use mathlib.Core.Path.{_≡_};
+ghost use Prim.Native.Nat.{_-_, _<_};
+ghost use lib.ListN.{length, take, drop};
+ghost use Rattle.refusals.specs.Refusals.{holds, first, accepted, refuse};
+ghost use Rattle.layout.specs.CodeDirectory.{identOffset};
+ghost use Rattle.directory.specs.Pages.{P, pages};
+ghost use Rattle.directory.specs.Rows.{headSize, headOf, specialOutside, codeOutside, identLength, fieldRows, slotRows, blobRows, signatureRows, specialSlot, codeSlots, FieldsRead};
+use layout::directory::CodeDirectory;
+use refusals::Answer;
+
+// The slot type of the directory.
+const DIRECTORY: u32 = 0;
+
+// CS_HASHTYPE_SHA256
+const SHA256: usize = 2;
+
+// The last version that has no codeLimit64.
+const LAST_WITHOUT_LIMIT64: usize = 0x202FF;
+
+// The page sizes: 2 to the 12 and 2 to the 14.
+const PAGE_12: usize = 4096;
+
+const PAGE_14: usize = 16384;
+
+const MOST_CODE_SLOTS: usize = 65536;
+
+const MOST_SPECIAL_SLOTS: usize = 11;
+
+// Tests 1 to 18. `side` is the length of the longest side file that is there, 0 where none is.
+pub fn tested(sig: &[u8], side: usize) -> Answer
+    ensures { λ r. ⌜ r ≡ first (signatureRows side (now (sig .entry))) accepted ⌝ }
+{
+    let blobs = superblob::tested(sig, side);
+    if blobs.number != 0 {
+        return blobs;
+    }
+    let d = superblob::find(sig, DIRECTORY);
+    if d.len() == 0 {
+        return answer(10, 0);
+    }
+    blob_tested(d)
+}
+
+// The fields that a check reads, with what follows from them.
+pub struct Directory {
+    pub version: usize,
+    pub flags: usize,
+    pub hash_offset: usize,
+    pub ident_offset: usize,
+    pub special_slots: usize,
+    pub code_slots: usize,
+    pub code_limit: usize,
+    pub hash_size: usize,
+    pub hash_type: usize,
+    pub platform: usize,
+    pub page_shift: usize,
+    // Bytes of a page.
+    pub page_size: usize,
+    // Bytes of the identifier, without the zero byte that ends it.
+    pub ident_length: usize,
+}
+
+// The fields of the directory whose blob is d.
+pub fn read(d: &[u8]) -> Directory
+    ensures { λ r. ⌜ FieldsRead (now (d .entry)) r ⌝ }
+{
+    let head = CodeDirectory::read(d);
+    Directory {
+        version: head.version,
+        flags: head.flags,
+        hash_offset: head.hash_offset,
+        ident_offset: head.ident_offset,
+        special_slots: head.special_slots,
+        code_slots: head.code_slots,
+        code_limit: head.code_limit,
+        hash_size: head.hash_size,
+        hash_type: head.hash_type,
+        platform: head.platform,
+        page_shift: head.page_shift,
+        page_size: page_size(d),
+        ident_length: ident_length(d),
+    }
+}
+
+// Special slot k, counted from 1, which ends where slot k - 1 starts; slot 1 ends at hashOffset.
+pub fn special_slot<'a>(d: &'a [u8], k: usize) -> &'a [u8]
+    ensures { λ r. ⌜ now r ≡ specialSlot (now (d .entry)) k ⌝ }
+{
+    let at = CodeDirectory::read(d).hash_offset;
+    if at / CodeDirectory::SLOT < k {
+        return part(d, 0, CodeDirectory::SLOT);
+    }
+    part(d, at - CodeDirectory::SLOT * k, CodeDirectory::SLOT)
+}
+
+// The code slots, one after the other.
+pub fn code_slots<'a>(d: &'a [u8]) -> &'a [u8]
+    ensures { λ r. ⌜ now r ≡ codeSlots (now (d .entry)) ⌝ }
+{
+    let head = CodeDirectory::read(d);
+    part(d, head.hash_offset, CodeDirectory::SLOT * head.code_slots)
+}
+
+// The `size` bytes from `start`, or what there is of them.
+fn part<'a>(d: &'a [u8], start: usize, size: usize) -> &'a [u8]
+    ensures { λ r. ⌜ now r ≡ take size (drop start (now (d .entry))) ⌝ }
+{
+    let all = d.len();
+    if all <= start {
+        return &d[all..];
+    }
+    if all - start < size {
+        return &d[start..];
+    }
+    let end = start + size;
+    &d[start..end]
+}
+
+fn answer(number: u32, place: usize) -> Answer
+    ensures { λ r. ⌜ r ≡ refuse number place ⌝ }
+{
+    Answer { number, place }
+}
+
+// Tests 11 to 18 of the directory whose blob is d.
+fn blob_tested(d: &[u8]) -> Answer
+    ensures { λ r. ⌜ r ≡ first (blobRows (now (d .entry))) accepted ⌝ }
+{
+    let fields = fields_tested(d);
+    if fields.number != 0 {
+        return fields;
+    }
+    slots_tested(d)
+}
+
+// Tests 11 to 15: the head, the hash, the page size and the code limit.
+fn fields_tested(d: &[u8]) -> Answer
+    ensures { λ r. ⌜ r ≡ first (fieldRows (now (d .entry))) accepted ⌝ }
+{
+    if d.len() < CodeDirectory::VERSION_END {
+        return answer(12, 0);
+    }
+    let size = head_of(d);
+    if size == 0 {
+        return answer(11, 0);
+    }
+    if d.len() < size {
+        return answer(12, 0);
+    }
+    let head = CodeDirectory::read(d);
+    if head.hash_type != SHA256 {
+        return answer(13, 0);
+    }
+    if head.hash_size != CodeDirectory::SLOT {
+        return answer(13, 0);
+    }
+    let shift = head.page_shift;
+    match shift {
+        0 | 12 | 14 => {}
+        _ => return answer(14, 0),
+    }
+    if head.version <= LAST_WITHOUT_LIMIT64 {
+        return answer(0, 0);
+    }
+    if head.code_limit64 != 0 {
+        return answer(15, 0);
+    }
+    answer(0, 0)
+}
+
+// Tests 16 to 18: the slots and the identifier.
+fn slots_tested(d: &[u8]) -> Answer
+    ensures { λ r. ⌜ r ≡ first (slotRows (now (d .entry))) accepted ⌝ }
+{
+    let head = CodeDirectory::read(d);
+    let code = head.code_slots;
+    let special = head.special_slots;
+    let ident = head.ident_offset;
+    if code != page_count(d) {
+        return answer(16, 0);
+    }
+    if MOST_CODE_SLOTS < code {
+        return answer(16, 0);
+    }
+    if MOST_SPECIAL_SLOTS < special {
+        return answer(16, 0);
+    }
+    if special_outside(d) {
+        return answer(17, 0);
+    }
+    if code_outside(d) {
+        return answer(17, 0);
+    }
+    if ident < head_of(d) {
+        return answer(18, 0);
+    }
+    if ident_length(d) == ident_room(d) {
+        return answer(18, 0);
+    }
+    answer(0, 0)
+}
+
+// A special slot reaches before the head's end or past the directory.
+fn special_outside(d: &[u8]) -> bool
+    ensures { λ r. ⌜ r ≡ holds (specialOutside (now (d .entry))) ⌝ }
+{
+    let head = CodeDirectory::read(d);
+    let special = head.special_slots;
+    if special == 0 {
+        return false;
+    }
+    if head.hash_offset < head_of(d) + CodeDirectory::SLOT * special {
+        return true;
+    }
+    if d.len() < head.hash_offset {
+        return true;
+    }
+    false
+}
+
+// A code slot reaches before the head's end or past the directory.
+fn code_outside(d: &[u8]) -> bool
+    ensures { λ r. ⌜ r ≡ holds (codeOutside (now (d .entry))) ⌝ }
+{
+    let head = CodeDirectory::read(d);
+    let code = head.code_slots;
+    if code == 0 {
+        return false;
+    }
+    if head.hash_offset < head_of(d) {
+        return true;
+    }
+    if d.len() < head.hash_offset + CodeDirectory::SLOT * code {
+        return true;
+    }
+    false
+}
+
+// The head size that the version asks for; 0 where the version is refused.
+fn head_size(version: usize) -> usize
+    ensures { λ r. ⌜ (r ≡ headSize version) × (r < 109) ⌝ }
+{
+    match version {
+        0x20001..=0x200FF => 44,
+        0x20100..=0x201FF => 48,
+        0x20200..=0x202FF => 52,
+        0x20300..=0x203FF => 64,
+        0x20400..=0x204FF => 88,
+        0x20500..=0x205FF => 96,
+        0x20600 => 108,
+        _ => 0,
+    }
+}
+
+fn head_of(d: &[u8]) -> usize
+    ensures { λ r. ⌜ (r ≡ headOf (now (d .entry))) × (r < 109) ⌝ }
+{
+    head_size(CodeDirectory::read(d).version)
+}
+
+// Bytes of a page: 2 to the shift, or the whole code limit where the shift is 0; 0 for a shift that test 14 refuses.
+fn page_size(d: &[u8]) -> usize
+    ensures { λ r. ⌜ r ≡ P (now (d .entry)) ⌝ }
+{
+    let head = CodeDirectory::read(d);
+    pages::page_bytes(head.page_shift, head.code_limit)
+}
+
+// The pages that the code limit makes.
+fn page_count(d: &[u8]) -> usize
+    ensures { λ r. ⌜ r ≡ pages (now (d .entry)) ⌝ }
+{
+    pages::page_count(page_size(d), CodeDirectory::read(d).code_limit)
+}
+
+// Bytes from the identifier's start to the directory's end.
+fn ident_room(d: &[u8]) -> usize
+    ensures { λ r. ⌜ r ≡ length (now (d .entry)) - identOffset (now (d .entry)) ⌝ }
+{
+    let start = CodeDirectory::read(d).ident_offset;
+    if d.len() < start {
+        return 0;
+    }
+    d.len() - start
+}
+
+// Bytes of the identifier before its zero byte; all the room where there is none.
+fn ident_length(d: &[u8]) -> usize
+    ensures { λ r. ⌜ r ≡ identLength (now (d .entry)) ⌝ }
+{
+    let start = CodeDirectory::read(d).ident_offset;
+    let room = ident_room(d);
+    let mut i = 0;
+    while i < room {
+        if endian::byte(d, start, i) == 0 {
+            return i;
+        }
+        i += 1;
+    }
+    i
+}

@@ -1,0 +1,91 @@
+-- The page lies in the bytes and its slot in the slots, so that both parts can be cut; the mark is what their comparison says.
+use native.Mathlib.Omega.{arith}
+use Prim.Native.Nat.{_-_, _*_}
+use Rattle.pages.specs.Pages.{pageEnd}
+use Rattle.pages.specs.Geometry.{count-of, Within, within}
+use Rattle.pages.specs.Marking.{cut-mark}
+use borrow.Author.Needs.{needs}
+use Rattle.pages.proofs.marks.mark_page.Statement.{statement}
+use Rattle.pages.proofs.marks.mark_page.Tie as tie
+
+inside : (c : tie.After-shared-slice-known2) → Within (c .before .before .args .p) (c .before .before .args .limit) (c .before .before .args .first) (c .before .before .args .n)
+inside c =
+    let b = c .before .before in
+    within _ _ _ _ (b .pre .from) (count-of _ _ _ (omega (arith, b .pre .here)))
+
+mul-base : tie.Need-mul-base
+mul-base c = let f = inside c in omega arith
+
+mul-start : tie.Need-mul-start
+mul-start c = let f = inside c in omega arith
+
+sub-start : tie.Need-sub-start
+sub-start c = let f = inside c in omega arith
+
+page-end-requires : tie.Need-page-end-requires
+page-end-requires c κs = let f = inside c in omega arith
+
+sub-end : tie.Need-sub-end
+sub-end c = let f = inside (c .before) in omega arith
+
+mul-slot : tie.Need-mul-slot
+mul-slot c = search needs
+
+add-next : tie.Need-add-next
+add-next c = search needs
+
+sub-agrees : tie.Need-sub-agrees
+sub-agrees c = let f = inside (c .before) in omega arith
+
+part-agrees-start : tie.Need-part-agrees-start
+part-agrees-start c = let f = inside (c .before) in omega arith
+
+part-agrees-end : tie.Need-part-agrees-end
+part-agrees-end c = search needs
+
+sub-agrees-2 : tie.Need-sub-agrees-2
+sub-agrees-2 c = search needs
+
+part-agrees-start-2 : tie.Need-part-agrees-start-2
+part-agrees-start-2 c = search needs
+
+part-agrees-end-2 : tie.Need-part-agrees-end-2
+part-agrees-end-2 c = search needs
+
+agrees-requires : tie.Need-agrees-requires
+agrees-requires c κs = search needs
+
+returns : tie.Need-returns
+returns c =
+    let b = c .before .before .before .before in
+    let a = b .before .before .before .args in
+    cut-mark _ _ _ _ (b .page-end .result - a .p * a .first) (pageEnd (a .p) (a .limit) (a .n) - a .p * a .first) _ _
+    (c .before .agrees .ensures) (omega arith) (rw (c .if1 .taken))
+
+returns-2 : tie.Need-returns-2
+returns-2 c =
+    let b = c .before .before .before .before in
+    let a = b .before .before .before .args in
+    cut-mark _ _ _ _ (b .page-end .result - a .p * a .first) (pageEnd (a .p) (a .limit) (a .n) - a .p * a .first) _ _
+    (c .before .agrees .ensures) (omega arith) (rw (c .if1 .left))
+
+pub mark-page-spec : {M : Type 1} → statement M
+mark-page-spec =
+    tie.close
+    (tie.spec
+    mul-base
+    mul-start
+    sub-start
+    page-end-requires
+    sub-end
+    mul-slot
+    add-next
+    sub-agrees
+    part-agrees-start
+    part-agrees-end
+    sub-agrees-2
+    part-agrees-start-2
+    part-agrees-end-2
+    agrees-requires
+    returns
+    returns-2)

@@ -1,0 +1,214 @@
+-- Laws of marks: what a mark says, the marks of an image, and what the routine that writes them is lent and leaves.
+use Prim.Native.Nat.{ℕ, _+_, _-_, _*_, _≤_, _<_}
+use mathlib.Core.Path.{_≡_, refl, sym, ap, _∙_}
+use mathlib.Core.Logic.{_⊎_, inl, inr, _↔_}
+use mathlib.Core.Bool.{Bool, true, false, cond}
+use mathlib.Core.List.{List, _++_, append-assoc}
+use native.Mathlib.Nat.{zero-add, mul-zero, sub-zero, mul-le-mul-left, min-le-left, min-le-right, le-min, le-trans}
+use native.Mathlib.Omega.{arith}
+use lib.ListN.{length, getD, take, drop, length-drop, length-append}
+use lib.Seq.{drop-drop, length-take-le}
+use Rattle.refusals.specs.declared.Answer.{Answer}
+use Rattle.refusals.specs.Refusals.{holds, lowest, refuse, first, Passes}
+use Rattle.refusals.specs.Positions.{none-fails}
+use Rattle.digest.specs.Hash.{digest}
+use Rattle.digest.specs.Sha256.{sha256}
+use Rattle.digest.specs.Same.{same, same-equal, equal-same}
+use Rattle.pages.specs.Pages.{Fit, pageCount, pageEnd, part, pageOf, metFirst, metEnd, wanted}
+use Rattle.pages.specs.Marks.{slotWidth, slotAt, agrees, markOf, marksOf, markIn, marksFrom, remarked, neither, differs, markRows, badRows, judged, PageHere, PagesHere}
+use Rattle.pages.specs.Geometry.{met-le, met-count}
+use Rattle.pages.specs.Lists.{part-below, tab-length, tab-at, tab-same}
+
+-- WHAT A MARK SAYS
+
+-- a page agrees exactly when its slot holds the digest of its bytes
+pub agrees-equal : (slots : List ℕ) (i : ℕ) (bytes : List ℕ) → (agrees slots i bytes ≡ true) ↔ (digest sha256 bytes ≡ slotAt slots i)
+unfolding agrees
+agrees-equal slots i bytes = (λ e. same-equal _ _ e, λ e. equal-same _ _ e)
+
+mark-of : (slots : List ℕ) (i : ℕ) (bytes : List ℕ) (b : Bool) → b ≡ agrees slots i bytes → cond {A = ℕ} b 0 1 ≡ markOf slots i bytes
+unfolding markOf
+mark-of slots i bytes b e = ap (λ (t : Bool). cond {A = ℕ} t 0 1) e
+
+pub mark-zero : (slots : List ℕ) (i : ℕ) (bytes : List ℕ) → true ≡ agrees slots i bytes → 0 ≡ markOf slots i bytes
+mark-zero slots i bytes e = mark-of slots i bytes true e
+
+pub mark-one : (slots : List ℕ) (i : ℕ) (bytes : List ℕ) → false ≡ agrees slots i bytes → 1 ≡ markOf slots i bytes
+mark-one slots i bytes e = mark-of slots i bytes false e
+
+-- as the code finds it, from the slot cut out of the slots
+slot-cut : (slots : List ℕ) (n : ℕ) → part slots (slotWidth * n) (slotWidth * n + slotWidth) ≡ slotAt slots n
+unfolding slotAt
+slot-cut slots n =
+    let e : slotWidth * n + slotWidth - slotWidth * n ≡ slotWidth = omega arith in
+    rw e
+
+cut-agrees : (slots bytes : List ℕ) (n a e f : ℕ) (b : Bool)
+    → b ≡ same (digest sha256 (part bytes a e)) (part slots (slotWidth * n) (slotWidth * n + slotWidth)) → e ≡ f → b ≡ agrees slots n (part bytes a f)
+unfolding agrees
+cut-agrees slots bytes n a e f b h q =
+    h ∙ ap (same (digest sha256 (part bytes a e))) (slot-cut slots n) ∙ ap (λ (x : ℕ). same (digest sha256 (part bytes a x)) (slotAt slots n)) q
+
+pub cut-mark : (slots bytes : List ℕ) (n a e f v : ℕ) (b : Bool)
+    → b ≡ same (digest sha256 (part bytes a e)) (part slots (slotWidth * n) (slotWidth * n + slotWidth)) → e ≡ f
+    → v ≡ cond {A = ℕ} b 0 1 → v ≡ markOf slots n (part bytes a f)
+cut-mark slots bytes n a e f v b h q w = w ∙ mark-of slots n (part bytes a f) b (cut-agrees slots bytes n a e f b h q)
+
+-- the mark is 0 exactly when the slot holds the digest
+pub mark-exact : (slots : List ℕ) (i : ℕ) (bytes : List ℕ) → (markOf slots i bytes ≡ 0) ↔ (digest sha256 bytes ≡ slotAt slots i)
+mark-exact slots i bytes = (by-test (agrees slots i bytes) refl, λ e. sym (mark-zero slots i bytes (sym (agrees-equal slots i bytes .1 e))))
+  where
+    by-test : (b : Bool) → b ≡ agrees slots i bytes → markOf slots i bytes ≡ 0 → digest sha256 bytes ≡ slotAt slots i
+    by-test true e h = agrees-equal slots i bytes .0 (sym e)
+    by-test false e h = absurd (omega (arith, mark-one slots i bytes e))
+
+-- else it is 1
+pub mark-small : (slots : List ℕ) (i : ℕ) (bytes : List ℕ) → markOf slots i bytes ≤ 1
+mark-small slots i bytes = by-test (agrees slots i bytes) refl
+  where
+    by-test : (b : Bool) → b ≡ agrees slots i bytes → markOf slots i bytes ≤ 1
+    by-test true e = omega (arith, mark-zero slots i bytes e)
+    by-test false e = omega (arith, mark-one slots i bytes e)
+
+-- THE MARKS OF AN IMAGE
+
+pub marks-length : (p limit : ℕ) (slots image : List ℕ) → length (marksOf p limit slots image) ≡ pageCount p limit
+unfolding marksOf
+marks-length p limit slots image = tab-length 0 (pageCount p limit) (λ i. markOf slots i (pageOf p limit i image))
+
+pub marks-at : (p limit : ℕ) (slots image : List ℕ) (i : ℕ) → i < pageCount p limit
+    → getD (marksOf p limit slots image) i 0 ≡ markOf slots i (pageOf p limit i image)
+unfolding marksOf
+marks-at p limit slots image i h =
+    tab-at 0 (pageCount p limit) (λ i. markOf slots i (pageOf p limit i image)) i 0 h
+    ∙ ap (λ (k : ℕ). markOf slots k (pageOf p limit k image)) (zero-add i)
+
+-- each is 0 or 1, so that test 34 passes
+pub marks-small : (p limit : ℕ) (slots image : List ℕ) (i : ℕ) → i < pageCount p limit → getD (marksOf p limit slots image) i 0 ≤ 1
+marks-small p limit slots image i h =
+    omega (arith, marks-at p limit slots image i h, mark-small slots i (pageOf p limit i image))
+
+pub marks-pass : (p limit : ℕ) (slots image : List ℕ) → Passes (markRows (marksOf p limit slots image))
+unfolding markRows neither
+marks-pass p limit slots image =
+    let n = marks-length p limit slots image in
+    let q = none-fails (neither (marksOf p limit slots image)) (length (marksOf p limit slots image))
+    (λ k l. marks-small p limit slots image k (omega arith)) in
+    (omega arith, tt)
+
+-- marks depend on the bytes below the limit alone
+pub marks-below : (p limit : ℕ) (slots image other : List ℕ) → take limit image ≡ take limit other
+    → marksOf p limit slots image ≡ marksOf p limit slots other
+unfolding marksOf
+marks-below p limit slots image other e =
+    tab-same 0 (pageCount p limit) (λ i. markOf slots i (pageOf p limit i image)) (λ i. markOf slots i (pageOf p limit i other))
+    (λ k l u. ap (markOf slots k)
+    (part-below image limit (p * k) (pageEnd p limit k) (min-le-right (p * (k + 1)) limit)
+    ∙ ap (λ (m : List ℕ). part m (p * k) (pageEnd p limit k)) e
+    ∙ sym (part-below other limit (p * k) (pageEnd p limit k) (min-le-right (p * (k + 1)) limit))))
+
+-- the marks of all pages, from the image itself
+pub whole-marks : (p limit : ℕ) (slots image : List ℕ) (n : ℕ) → n ≡ pageCount p limit → marksFrom p limit slots 0 n image ≡ marksOf p limit slots image
+unfolding marksFrom marksOf
+whole-marks p limit slots image n e =
+    rw e (tab-same 0 (pageCount p limit) (markIn p limit slots 0 image) (λ i. markOf slots i (pageOf p limit i image)) (λ k l u. simp (mul-zero, sub-zero)))
+
+-- THE ANSWER
+
+-- the place given matters to a 0 alone: what takes a 0's place away, and leaves 31 as it is, makes the answer a recheck's
+pub judged-place : (marks : List ℕ) (place : ℕ) (f : Answer → Answer) → f (refuse 0 place) ≡ refuse 0 0 → ((q : ℕ) → f (refuse 31 q) ≡ refuse 31 q)
+    → f (judged marks place) ≡ judged marks 0
+unfolding judged badRows first
+judged-place marks place f z k = by-test (holds _)
+  where
+    by-test : (b : Bool) → f (cond b (refuse 31 (lowest (differs marks) (length marks))) (refuse 0 place)) ≡ cond b (refuse 31 (lowest (differs marks) (length marks))) (refuse 0 0)
+    by-test true = k (lowest (differs marks) (length marks))
+    by-test false = z
+
+-- it is 0 or 31
+pub judged-number : (marks : List ℕ) (place : ℕ) → (judged marks place .number ≡ 0) ⊎ (judged marks place .number ≡ 31)
+unfolding judged badRows first
+judged-number marks place = by-test (holds _)
+  where
+    by-test : (b : Bool) → (cond b (refuse 31 (lowest (differs marks) (length marks))) (refuse 0 place) .number ≡ 0)
+        ⊎ (cond b (refuse 31 (lowest (differs marks) (length marks))) (refuse 0 place) .number ≡ 31)
+    by-test true = inr refl
+    by-test false = inl refl
+
+-- WHAT THE ROUTINE IS LENT
+
+-- each of the pages is there
+pub page-of : (p limit : ℕ) (slots : List ℕ) (first n : ℕ) (bytes : List ℕ) (i : ℕ) → PagesHere p limit slots first n bytes → i < n
+    → PageHere p limit slots first (first + i) bytes
+page-of p limit slots first n bytes i h u =
+    record {
+      from = omega arith;
+      here = omega arith;
+      slot = omega arith;
+      held = omega (arith, le-min {k = pageEnd p limit (first + i)} (le-trans (min-le-left (p * (first + i + 1)) limit) (mul-le-mul-left {n = first + n} p (omega arith))) (min-le-right (p * (first + i + 1)) limit));
+    }
+
+-- all pages, in an image that reaches the limit
+pub whole-here : (p limit : ℕ) (slots image : List ℕ) (n : ℕ) → n ≡ pageCount p limit → slotWidth * n ≤ length slots → limit ≤ length image
+    → PagesHere p limit slots 0 n image
+whole-here p limit slots image n e h u =
+    record {
+      here = omega arith;
+      slotted = omega arith;
+      held = omega (arith, min-le-right (p * (0 + n)) limit);
+    }
+
+-- a recheck's range that passes 32 and 33, with a slot and a mark for each page
+pub record RangeHere (p limit : ℕ) (slots : List ℕ) (start size : ℕ) (bytes marks : List ℕ) : Type 0 where
+  pub fits : Fit p limit
+  pub slotted : slotWidth * pageCount p limit ≤ length slots
+  pub marked : length marks ≡ pageCount p limit
+  pub below : start + size ≤ limit
+  pub exact : length bytes ≡ wanted p limit start size
+
+-- the pages met, as the code cuts them out of the marks
+pub cut-length : (first end : ℕ) (marks : List ℕ) → first ≤ end → end ≤ length marks → length (take (end - first) (drop first marks)) ≡ end - first
+cut-length first end marks h u = length-take-le (end - first) (drop first marks) (omega (arith, length-drop first marks))
+
+module _ (p limit : ℕ) (slots : List ℕ) (start size : ℕ) (bytes marks : List ℕ) (h : RangeHere p limit slots start size bytes marks) where
+  pub cut-order : metFirst p start size ≤ metEnd p start size
+  cut-order = met-le p start size
+
+  pub cut-within : metEnd p start size ≤ length marks
+  cut-within = omega (arith, met-count p limit start size (h .fits) (h .below), h .marked)
+
+  -- they are there for the routine that marks them
+  pub cut-here : (first end : ℕ) → first ≡ metFirst p start size → end ≡ metEnd p start size
+      → PagesHere p limit slots first (length (take (end - first) (drop first marks))) bytes
+  cut-here first end e f =
+      let o = cut-order in
+      let w = cut-within in
+      let n : length (take (end - first) (drop first marks)) ≡ end - first = cut-length first end marks (omega arith) (omega arith) in
+      let j : first + (end - first) ≡ metEnd p start size = omega arith in
+      rw n
+      (record {
+        here = omega (arith, h .marked);
+        slotted = omega (arith, h .slotted, h .marked);
+        held = rw (j, e) (omega (arith, h .exact));
+      })
+
+  -- the marks with their part put back
+  pub put-remarked : (new : List ℕ) (first end : ℕ) → first ≡ metFirst p start size → end ≡ metEnd p start size
+      → new ≡ marksFrom p limit slots first (length (take (end - first) (drop first marks))) bytes
+      → take first marks ++ (new ++ drop (end - first) (drop first marks)) ≡ remarked p limit slots start size bytes marks
+  unfolding remarked
+  put-remarked new first end e f g =
+      let o = cut-order in
+      let w = cut-within in
+      let n : length (take (end - first) (drop first marks)) ≡ end - first = cut-length first end marks (omega arith) (omega arith) in
+      let j : first + (end - first) ≡ end = omega arith in
+      rw (g, n, drop-drop (end - first) first marks, j, e, f) (sym (append-assoc (take (metFirst p start size) marks) _ _))
+
+  pub remarked-length : length (remarked p limit slots start size bytes marks) ≡ length marks
+  unfolding remarked marksFrom
+  remarked-length =
+      let o = cut-order in
+      let w = cut-within in
+      let n = tab-length (metFirst p start size) (metEnd p start size - metFirst p start size) (markIn p limit slots (metFirst p start size) bytes) in
+      let f : length (take (metFirst p start size) marks) ≡ metFirst p start size = length-take-le (metFirst p start size) marks (omega arith) in
+      simp (length-append, length-drop) (omega arith)

@@ -1,0 +1,87 @@
+-- Marks of pages: 0 where the page agrees with its slot, 1 where it differs (document 01, "Pages" and tests 31 and 34). `slots` is the
+-- bytes of the code slots, from the first on.
+use Prim.Native.Nat.{ℕ, zero, suc, _+_, _-_, _*_, _≤_, min}
+use mathlib.Core.Bool.{Bool, cond}
+use mathlib.Core.List.{List, [], _∷_, _++_}
+use lib.ListN.{length, getD, take, drop}
+use Rattle.refusals.specs.declared.Answer.{Answer}
+use Rattle.refusals.specs.Refusals.{Cond, _<?_, _≡?_, Row, over, refuse, first}
+use Rattle.digest.specs.Hash.{digest}
+use Rattle.digest.specs.Sha256.{sha256}
+use Rattle.digest.specs.Same.{same}
+use Rattle.pages.specs.Pages.{pageCount, pageStart, pageEnd, part, pageOf, metFirst, metEnd}
+
+-- bytes of a slot
+abbrev pub slotWidth : ℕ
+slotWidth = 32
+
+-- the slot of page i
+unfoldable pub slotAt : List ℕ → ℕ → List ℕ
+slotAt slots i = take slotWidth (drop (slotWidth * i) slots)
+
+-- the bytes of page i agree with its slot
+unfoldable pub agrees : List ℕ → ℕ → List ℕ → Bool
+agrees slots i bytes = same (digest sha256 bytes) (slotAt slots i)
+
+unfoldable pub markOf : List ℕ → ℕ → List ℕ → ℕ
+markOf slots i bytes = cond (agrees slots i bytes) 0 1
+
+-- f at i, i + 1, .., n numbers in all
+unfoldable pub tab : ℕ → ℕ → (ℕ → ℕ) → List ℕ
+tab i zero f = []
+tab i (suc n) f = f i ∷ tab (suc i) n f
+
+-- the marks of an image
+unfoldable pub marksOf : ℕ → ℕ → List ℕ → List ℕ → List ℕ
+marksOf p limit slots image = tab 0 (pageCount p limit) (λ i. markOf slots i (pageOf p limit i image))
+
+-- the mark of page i, of bytes that begin where page `first` begins
+abbrev pub markIn : ℕ → ℕ → List ℕ → ℕ → List ℕ → ℕ → ℕ
+markIn p limit slots first bytes i =
+    markOf slots i (part bytes (pageStart p i - pageStart p first) (pageEnd p limit i - pageStart p first))
+
+-- the marks of n pages from page `first` on, of bytes that begin where that page begins
+unfoldable pub marksFrom : ℕ → ℕ → List ℕ → ℕ → ℕ → List ℕ → List ℕ
+marksFrom p limit slots first n bytes = tab first n (markIn p limit slots first bytes)
+
+-- the marks with those of the pages that a range meets written anew, of bytes that begin where the first page met begins
+unfoldable pub remarked : ℕ → ℕ → List ℕ → ℕ → ℕ → List ℕ → List ℕ → List ℕ
+remarked p limit slots start size bytes marks =
+    take (metFirst p start size) marks
+    ++ marksFrom p limit slots (metFirst p start size) (metEnd p start size - metFirst p start size) bytes
+    ++ drop (metEnd p start size) marks
+
+-- TESTS
+
+-- mark i is neither 0 nor 1
+unfoldable pub neither : List ℕ → ℕ → Cond
+neither marks i = 1 <? getD marks i 0
+
+-- page i is marked as one that differs
+unfoldable pub differs : List ℕ → ℕ → Cond
+differs marks i = getD marks i 0 ≡? 1
+
+unfoldable pub markRows : List ℕ → List Row
+markRows marks = over 34 (length marks) (neither marks) ∷ []
+
+unfoldable pub badRows : List ℕ → List Row
+badRows marks = over 31 (length marks) (differs marks) ∷ []
+
+-- 31 with the lowest page marked 1, or else 0 with the place given
+unfoldable pub judged : List ℕ → ℕ → Answer
+judged marks place = first (badRows marks) (refuse 0 place)
+
+-- WHAT THE ROUTINE THAT WRITES MARKS REQUIRES
+
+-- page n is there, has a slot, and lies in the bytes, which begin where page `first` begins
+pub record PageHere (p limit : ℕ) (slots : List ℕ) (first n : ℕ) (bytes : List ℕ) : Type 0 where
+  pub from : first ≤ n
+  pub here : n + 1 ≤ pageCount p limit
+  pub slot : slotWidth * (n + 1) ≤ length slots
+  pub held : pageEnd p limit n - pageStart p first ≤ length bytes
+
+-- n pages from page `first` on are there, have slots, and lie in the bytes
+pub record PagesHere (p limit : ℕ) (slots : List ℕ) (first n : ℕ) (bytes : List ℕ) : Type 0 where
+  pub here : first + n ≤ pageCount p limit
+  pub slotted : slotWidth * (first + n) ≤ length slots
+  pub held : min (p * (first + n)) limit - pageStart p first ≤ length bytes

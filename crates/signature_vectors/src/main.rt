@@ -1,0 +1,89 @@
+// Reads the corpus of signatures and prints, for each, the answer of tests 1 to 18, where the blobs of several types lie, and the
+// directory's fields where it is accepted. Corpus and expected output are made by the reference: tools/make-corpora.
+ghost use lib.ListN.{length};
+
+// The types that are looked up in each signature.
+const KINDS: [u32; 11] = [0, 1, 2, 5, 7, 8, 11, 4096, 4100, 65536, 4294967295];
+
+// Room for a signature of one byte more than test 1 allows.
+fn room() -> [u8; 4194305] {
+    [0; 4194305]
+}
+
+fn print(text: &[u8], n: usize) {
+    io::write_all(1, text);
+    io::print_decimal(1, n as u64);
+}
+
+// ` TYPE:START+LENGTH`, where a blob of the type is found. The part that the lookup hands back has that length.
+fn print_found(sig: &[u8], kind: u32) {
+    let span = superblob::find_span(sig, kind);
+    let found = superblob::find(sig, kind);
+    if found.len() == 0 {
+        return;
+    }
+    print(b" ", kind as usize);
+    print(b":", span.start);
+    print(b"+", found.len());
+}
+
+fn print_fields(sig: &[u8]) {
+    let d = superblob::find(sig, 0);
+    let read = directory::read(d);
+    print(b" | ", superblob::find_span(sig, 0).start);
+    print(b" ", d.len());
+    print(b" ", read.version);
+    print(b" ", read.flags);
+    print(b" ", read.hash_offset);
+    print(b" ", read.ident_offset);
+    print(b" ", read.special_slots);
+    print(b" ", read.code_slots);
+    print(b" ", read.hash_size);
+    print(b" ", read.hash_type);
+    print(b" ", read.platform);
+    print(b" ", read.page_shift);
+    print(b" ", read.code_limit);
+    print(b" ", read.page_size);
+    print(b" ", read.ident_length);
+}
+
+fn print_case(sig: &[u8]) {
+    let answer = directory::tested(sig, 0);
+    print(b"", answer.number as usize);
+    print(b" ", answer.place);
+    let mut i: usize = 0;
+    while i < 11 {
+        print_found(sig, KINDS[i]);
+        i += 1;
+    }
+    if answer.number == 0 {
+        print_fields(sig);
+    }
+    io::write_all(1, b"\n");
+}
+
+fn print_cases(file: &[u8], sig: &mut [u8]) {
+    let mut at: usize = 0;
+    while at < file.len() {
+        let item = corpus::expand(file, at, sig);
+        let end = item.length;
+        let next = item.next;
+        if next <= at {
+            io::write_all(1, b"broken corpus\n");
+            return;
+        }
+        print_case(&sig[0..end]);
+        at = next;
+    }
+}
+
+fn run(file: &mut [u8], sig: &mut [u8; 4194305]) {
+    let n = corpus::load(b"corpus", file);
+    print_cases(&file[0..n], sig);
+}
+
+fn main() {
+    let mut file = [0u8; 131072];
+    let mut sig = room();
+    run(&mut file, &mut sig);
+}

@@ -1,0 +1,4 @@
+pub mod Rows
+pub mod Exact
+pub mod Formed
+pub mod Blobs

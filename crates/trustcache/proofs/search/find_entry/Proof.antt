@@ -1,0 +1,94 @@
+-- The entry that has the hash, if there is one, is among those that are left, and each comparison leaves at most half of them.
+use borrow.Author.Needs.{needs}
+use native.Mathlib.Omega.{arith}
+use Prim.Native.Nat.{_-_}
+use Rattle.endian.specs.Numbers.{big}
+use Rattle.trustcache.specs.Order.{compared}
+use Rattle.trustcache.specs.Search.{Searching, search-all, search-fits, search-below, search-above, search-found, search-none}
+use Rattle.trustcache.proofs.search.find_entry.Statement.{statement}
+use Rattle.trustcache.proofs.search.find_entry.Tie as tie
+
+abbrev Inv-loop : tie.InvT-loop
+Inv-loop c hash entries low₀ high₀ compared₀ low high compared = Searching c (big 20 hash 0) entries low high compared
+
+abbrev μ-loop : tie.MeasureT-loop
+μ-loop c hash entries low₀ high₀ compared₀ low high compared = high - low
+
+read-requires : tie.Need-read-requires Inv-loop μ-loop
+read-requires c κs = search needs
+
+loop-holds : tie.Need-loop-holds Inv-loop μ-loop
+loop-holds c = search-all _ _ _
+
+sub-middle : tie.Need-sub-middle Inv-loop μ-loop
+sub-middle c = omega arith
+
+add-middle : tie.Need-add-middle Inv-loop μ-loop
+add-middle c = omega arith
+
+hash-of-requires : tie.Need-hash-of-requires Inv-loop μ-loop
+hash-of-requires c κs = search needs
+
+slice-aggregate-compare : tie.Need-slice-aggregate-compare Inv-loop μ-loop
+slice-aggregate-compare c = search needs
+
+compare-requires : tie.Need-compare-requires Inv-loop μ-loop
+compare-requires c κs = search needs
+
+add-compared : tie.Need-add-compared Inv-loop μ-loop
+add-compared c = let b = c .before .before .before .before in omega (arith, search-fits _ _ _ _ _ _ (b .loop .inv) (omega arith) (b .before .read .ensures .entries-below))
+
+returns : tie.Need-returns Inv-loop μ-loop
+returns c =
+    let d = c .before in
+    let b = d .before .before .before .before in
+    let o = compared _ _ _ _ _ (d .before .before .hash-of .ensures) (d .compare .ensures) in
+    search-found _ _ _ _ _ _ (b .loop .inv) (omega arith) (b .before .read .ensures .entries-is) (o .equal (c .if1 .taken))
+
+add-low : tie.Need-add-low Inv-loop μ-loop
+add-low c = omega arith
+
+loop-less : tie.Need-loop-less Inv-loop μ-loop
+loop-less c = omega arith
+
+loop-again : tie.Need-loop-again Inv-loop μ-loop
+loop-again c =
+    let d = c .before .before in
+    let b = d .before .before .before .before in
+    let o = compared _ _ _ _ _ (d .before .before .hash-of .ensures) (d .compare .ensures) in
+    search-below _ _ _ _ _ _ (b .loop .inv) (omega arith) (o .below (c .if2 .taken))
+
+loop-less-2 : tie.Need-loop-less-2 Inv-loop μ-loop
+loop-less-2 c = omega arith
+
+loop-again-2 : tie.Need-loop-again-2 Inv-loop μ-loop
+loop-again-2 c =
+    let d = c .before .before in
+    let b = d .before .before .before .before in
+    let o = compared _ _ _ _ _ (d .before .before .hash-of .ensures) (d .compare .ensures) in
+    search-above _ _ _ _ _ _ (b .loop .inv) (omega arith) (o .above (omega (arith, o .small)))
+
+returns-2 : tie.Need-returns-2 Inv-loop μ-loop
+returns-2 c = search-none _ _ _ _ _ _ (c .before .loop .inv) (omega arith) (c .before .before .read .ensures .entries-is)
+
+pub find-entry-spec : {M : Type 1} → statement M
+find-entry-spec =
+    tie.close
+    (tie.spec
+    Inv-loop
+    μ-loop
+    read-requires
+    loop-holds
+    sub-middle
+    add-middle
+    hash-of-requires
+    slice-aggregate-compare
+    compare-requires
+    add-compared
+    returns
+    add-low
+    loop-less
+    loop-again
+    loop-less-2
+    loop-again-2
+    returns-2)

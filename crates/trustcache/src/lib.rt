@@ -1,0 +1,42 @@
+// The trust cache and the launch constraints, tests 24 to 30 of document 01.
+//
+// A cache lists the directories that are admitted, by the first 20 bytes of their hashes, in strictly increasing order; an entry names
+// the constraint category that the launch has to meet. `entries` has the cache's form and order, 24 and 25, and `search` the lookup, 26
+// to 28; `launch` has the constraints, 29 and 30. Nothing is asked of the lent bytes: a byte past the end reads as 0.
+mod entries;
+mod launch;
+mod search;
+
+pub use entries::form_tested;
+pub use launch::Launch;
+pub use launch::launch_tested;
+use layout::cache::CacheEntry;
+use refusals::Answer;
+pub use search::Found;
+pub use search::find_entry;
+pub use search::lookup_tested;
+ghost use mathlib.Core.Path.{_≡_};
+ghost use Rattle.endian.specs.Numbers.{big};
+ghost use Rattle.refusals.specs.Refusals.{refuse, first};
+ghost use Rattle.trustcache.specs.Rows.{entryOf};
+ghost use Rattle.trustcache.specs.Table.{cacheRows};
+
+// Tests 24 to 30, of the directory whose hash begins with these 20 bytes. The place of a 0 is the directory's entry.
+pub fn tested(c: &[u8], hash: [u8; 20], facts: Launch) -> Answer
+    ensures { λ r. ⌜ r ≡ first (cacheRows (now (c .entry)) (big 20 hash 0) facts) (refuse 0 (entryOf (now (c .entry)) (big 20 hash 0))) ⌝ }
+{
+    let form = form_tested(c);
+    if form.number != 0 {
+        return form;
+    }
+    let found = lookup_tested(c, hash);
+    if found.number != 0 {
+        return found;
+    }
+    let entry = CacheEntry::read(c, found.place);
+    let launch = launch_tested(entry.category, facts);
+    if launch.number != 0 {
+        return launch;
+    }
+    found
+}
