@@ -10,11 +10,6 @@ fn room() -> [u8; 1572912] {
     [0; 1572912]
 }
 
-fn print(text: &[u8], n: usize) {
-    io::write_all(1, text);
-    io::print_decimal(1, n as u64);
-}
-
 fn hash_of(item: &[u8]) -> [u8; 20] {
     let mut hash = [0u8; 20];
     let mut i: usize = 0;
@@ -38,8 +33,7 @@ fn print_case(hash: &[u8], cache: &[u8], facts: &[u8]) {
         parent_is_init: fact(facts, 4) == 1,
     };
     let answer = trustcache::tested(cache, hash_of(hash), launch);
-    print(b"", answer.number as usize);
-    print(b" ", answer.place);
+    corpus::print_answer(answer.number, answer.place);
     io::write_all(1, b"\n");
 }
 

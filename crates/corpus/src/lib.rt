@@ -134,3 +134,68 @@ pub fn load(name: &[u8], out: &mut [u8]) -> usize
     }
     io::read_full(fd, out)
 }
+
+// Four items, one after the other.
+pub struct Four {
+    pub a: usize,
+    pub b: usize,
+    pub c: usize,
+    pub d: usize,
+    pub next: usize,
+}
+
+// Expands four items into four buffers, and answers their lengths and where the file goes on.
+pub fn expand_four(
+    file: &[u8],
+    at: usize,
+    a: &mut [u8],
+    b: &mut [u8],
+    c: &mut [u8],
+    d: &mut [u8],
+) -> Four
+    ensures { λ r. ⌜ (r .a ≤ length (now (a .exit))) × (r .b ≤ length (now (b .exit))) × (r .c ≤ length (now (c .exit))) × (r .d ≤ length (now (d .exit))) ⌝ }
+    ensures { λ r. ⌜ r .next ≤ length (now (file .entry)) ⌝ }
+{
+    let first = expand(file, at, a);
+    let second = expand(file, first.next, b);
+    let third = expand(file, second.next, c);
+    let fourth = expand(file, third.next, d);
+    Four {
+        a: first.length,
+        b: second.length,
+        c: third.length,
+        d: fourth.length,
+        next: fourth.next,
+    }
+}
+
+// PRINTING. What is written to standard output no contract can say; it is held to a stored output.
+
+// Writes a text and a number.
+pub fn print(text: &[u8], n: usize) {
+    io::write_all(1, text);
+    io::print_decimal(1, n as u64);
+}
+
+// Writes `NUMBER PLACE`.
+pub fn print_answer(number: u32, place: usize) {
+    print(b"", number as usize);
+    print(b" ", place);
+}
+
+// The hexadecimal digit of a number below 16.
+fn digit(x: u8) -> u8
+    requires { ⌜ x < 16 ⌝ }
+{
+    if x < 10 { b'0' + x } else { b'a' + (x - 10) }
+}
+
+// Writes bytes in hexadecimal.
+pub fn print_bytes(bytes: &[u8]) {
+    let mut i: usize = 0;
+    while i < bytes.len() {
+        let b = bytes[i];
+        io::write_all(1, &[digit(b / 16 % 16), digit(b % 16)]);
+        i += 1;
+    }
+}

@@ -1,29 +1,16 @@
 // Prints digests of published example messages (FIPS 180-4, NIST's example values), of every length from 0 to 300 of a byte pattern,
 // and the cut of a directory hash. The expected output is made by another program: tools/digest-vectors.
-ghost use Prim.Native.Nat.{ℕ, _<_};
 ghost use mathlib.Core.Path.{_≡_};
 ghost use lib.ListN.{length};
 
-// The hexadecimal digit of a number below 16.
-fn digit(x: u8) -> u8
-    requires { ⌜ x < 16 ⌝ }
-{
-    if x < 10 { b'0' + x } else { b'a' + (x - 10) }
-}
-
 // Writes the bytes in hexadecimal, and ends the line.
-fn print_bytes(bytes: &[u8]) {
-    let mut i: usize = 0;
-    while i < bytes.len() {
-        let b = bytes[i];
-        io::write_all(1, &[digit(b / 16 % 16), digit(b % 16)]);
-        i += 1;
-    }
+fn print_line(bytes: &[u8]) {
+    corpus::print_bytes(bytes);
     io::write_all(1, b"\n");
 }
 
 fn print_digest(message: &[u8]) {
-    print_bytes(&digest::digest(message));
+    print_line(&digest::digest(message));
 }
 
 // The digest of n bytes, of which a piece holds the first 8,192 and the next, and so on: taken in piece by piece.
@@ -41,7 +28,7 @@ fn print_pieces(piece: &[u8], n: usize)
     let last = n % 8192;
     let at = 64 * (last / 64);
     let all = digest::absorb(v, &piece[0..last], &k);
-    print_bytes(&digest::write_value(digest::finish(all, &piece[at..last], n, &k)));
+    print_line(&digest::write_value(digest::finish(all, &piece[at..last], n, &k)));
 }
 
 // The digest of n times the byte b.
@@ -95,5 +82,5 @@ fn main() {
     print_lengths(&pattern);
     let full =
         b"\xc4\x6e\x56\xe9\x49\x0d\x93\xfe\x35\xa7\x61\x99\xbd\xb3\x67\xb3\x46\x3c\x91\xdc\xdb\x3c\x46\x40\x3a\xb8\xba\x1c\x2d\x13\xfd\x86";
-    print_bytes(&digest::cut(*full));
+    print_line(&digest::cut(*full));
 }

@@ -12,13 +12,13 @@ use Rattle.refusals.specs.declared.Answer.{Answer}
 use Rattle.refusals.specs.Refusals.{Passes, first, accepted}
 use Rattle.refusals.specs.Conditions.{said}
 use Rattle.refusals.specs.Exact.{passes, passed}
-use Rattle.refusals.specs.Positions.{lowest-before, lowest-fails}
+use Rattle.refusals.specs.Positions.{lowest-before, lowest-fails, lowest-most}
 use Rattle.refusals.specs.Joined.{passes-append, append-passes}
 use Rattle.layout.specs.SuperBlob.{count}
 use Rattle.layout.specs.CodeDirectory.{version, identOffset, nSpecialSlots, nCodeSlots, hashSize, hashType, pageSize, codeLimit64}
 use Rattle.superblob.specs.Rows.{rows, position, blob}
 use Rattle.superblob.specs.Formed.{Formed, formed}
-use Rattle.superblob.specs.Blobs.{FoundBlob, found-blob, lowest-most, position-most}
+use Rattle.superblob.specs.Blobs.{FoundBlob, found-blob, position-most}
 use Rattle.directory.specs.Pages.{pages}
 use Rattle.directory.specs.Rows.{headOf, zeroAt, identLength, fieldRows, slotRows, blobRows, blobRows-unused, directoryRows, signatureRows, signatureRows-unused}
 use Rattle.directory.specs.Slots.{SlotsInside, slots-inside}

@@ -12,6 +12,7 @@ ghost use Rattle.directory.specs.Pages.{P, pages};
 ghost use Rattle.directory.specs.Rows.{headSize, headOf, specialOutside, codeOutside, identLength, fieldRows, slotRows, blobRows, signatureRows, specialSlot, codeSlots, FieldsRead};
 use layout::directory::CodeDirectory;
 use refusals::Answer;
+use refusals::answers::answer;
 
 // The slot type of the directory.
 const DIRECTORY: u32 = 0;
@@ -119,12 +120,6 @@ fn part<'a>(d: &'a [u8], start: usize, size: usize) -> &'a [u8]
     }
     let end = start + size;
     &d[start..end]
-}
-
-fn answer(number: u32, place: usize) -> Answer
-    ensures { λ r. ⌜ r ≡ refuse number place ⌝ }
-{
-    Answer { number, place }
 }
 
 // Tests 11 to 18 of the directory whose blob is d.

@@ -11,25 +11,39 @@ unfolding first
 first-append [] more done = refl
 first-append (row n c p ∷ rows) more done = ap (cond (holds c) (refuse n p)) (first-append rows more done)
 
--- one table after another: a refusal of the first stands ...
-first-stops : (rows more : List Row) (done : Answer) → (first rows accepted .number ≡ 0 → ⊥) → first rows accepted ≡ first (rows ++ more) done
+-- a refusal of the first table stands, whatever answer of number 0 it gives where it passes
+first-stops : (rows more : List Row) (d e : Answer) → d .number ≡ 0 → (first rows d .number ≡ 0 → ⊥) → first rows d ≡ first (rows ++ more) e
 unfolding first
-first-stops [] more done ne = absurd (ne refl)
-first-stops (row m c q ∷ rows) more done ne = at-row (first-stops rows more done) (holds c) ne
+first-stops [] more d e z ne = absurd (ne z)
+first-stops (row m c q ∷ rows) more d e z ne = at-row (first-stops rows more d e z) (holds c) ne
   where
-    at-row : ((first rows accepted .number ≡ 0 → ⊥) → first rows accepted ≡ first (rows ++ more) done) → (b : Bool)
-        → (cond b (refuse m q) (first rows accepted) .number ≡ 0 → ⊥)
-        → cond b (refuse m q) (first rows accepted) ≡ cond b (refuse m q) (first (rows ++ more) done)
+    at-row : ((first rows d .number ≡ 0 → ⊥) → first rows d ≡ first (rows ++ more) e) → (b : Bool)
+        → (cond b (refuse m q) (first rows d) .number ≡ 0 → ⊥)
+        → cond b (refuse m q) (first rows d) ≡ cond b (refuse m q) (first (rows ++ more) e)
     at-row f true ne = refl
     at-row f false ne = f ne
 
-pub stops : (rows more : List Row) (done a : Answer) → a ≡ first rows accepted → (a .number ≡ 0 → ⊥) → a ≡ first (rows ++ more) done
-stops rows more done a e ne = e ∙ first-stops rows more done (rw (← e) ne)
+pub stops-at : (rows more : List Row) (d e a : Answer) → d .number ≡ 0 → a ≡ first rows d → (a .number ≡ 0 → ⊥) → a ≡ first (rows ++ more) e
+stops-at rows more d e a z f ne = f ∙ first-stops rows more d e z (rw (← f) ne)
 
--- ... and where it passes, the second decides
+-- .. also with no table behind it
+pub stops-alone : (rows : List Row) (d e a : Answer) → d .number ≡ 0 → a ≡ first rows d → (a .number ≡ 0 → ⊥) → a ≡ first rows e
+unfolding first
+stops-alone rows d e a z f ne = stops-at rows [] d e a z f ne ∙ first-append rows [] e
+
+-- the first table passes where its answer has number 0, and then the second decides
+pub passed-at : (rows : List Row) (d a : Answer) → Unused rows 0 → a ≡ first rows d → a .number ≡ 0 → Passes rows
+passed-at rows d a u f z = passed rows d 0 u (sym (ap (λ (x : Answer). x .number) f) ∙ z)
+
+pub goes-on : (rows more : List Row) (e b : Answer) → Passes rows → b ≡ first more e → b ≡ first (rows ++ more) e
+goes-on rows more e b h f = f ∙ passes rows (first more e) h ∙ sym (first-append rows more e)
+
+-- the same where the first table's own answer is `accepted`
+pub stops : (rows more : List Row) (done a : Answer) → a ≡ first rows accepted → (a .number ≡ 0 → ⊥) → a ≡ first (rows ++ more) done
+stops rows more done a e ne = stops-at rows more accepted done a refl e ne
+
 pub goes : (rows more : List Row) (done a b : Answer) → Unused rows 0 → a ≡ first rows accepted → a .number ≡ 0 → b ≡ first more done → b ≡ first (rows ++ more) done
-goes rows more done a b u e z f =
-    f ∙ passes rows (first more done) (passed rows accepted 0 u (sym (ap (λ (x : Answer). x .number) e) ∙ z)) ∙ sym (first-append rows more done)
+goes rows more done a b u e z f = goes-on rows more done b (passed-at rows accepted a u e z) f
 
 -- two tables that pass, one after the other
 pub passes-append : (rows more : List Row) → Passes rows → Passes more → Passes (rows ++ more)

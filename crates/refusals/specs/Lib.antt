@@ -4,4 +4,5 @@ pub mod Exact
 pub mod Positions
 pub mod Several
 pub mod Joined
+pub mod Alike
 pub mod Ranges

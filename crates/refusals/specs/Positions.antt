@@ -9,7 +9,7 @@ use native.Mathlib.Nat.{eq-or-lt-of-le, le-of-suc-le-suc}
 use native.Mathlib.Numerals.{add-one}
 use native.Mathlib.Omega.{arith}
 use Rattle.refusals.specs.Refusals.{Cond, holds, Says, orAt, lowest}
-use Rattle.refusals.specs.Conditions.{says}
+use Rattle.refusals.specs.Conditions.{says, said}
 
 -- a search that has passed every position below i, and what it finds at i
 module _ (f : ℕ → Cond) where
@@ -102,3 +102,12 @@ some-fails f n i h here = by-test (ltb (lowest f n) n) refl
     by-test : (b : Bool) → ltb (lowest f n) n ≡ b → lowest f n < n
     by-test true e = ltb-true (lowest f n) n e
     by-test false e = absurd (true≢false (says true (f i) here ∙ sym (lowest-below f n (ltb-false (lowest f n) n e) i h)))
+
+-- a search ends at its bound
+pub lowest-most : (f : ℕ → Cond) (n : ℕ) → lowest f n ≤ n
+lowest-most f n = by-test (ltb (lowest f n) n) refl
+  where
+    by-test : (b : Bool) → ltb (lowest f n) n ≡ b → lowest f n ≤ n
+    by-test true e = omega (arith, ltb-true (lowest f n) n e)
+    by-test false e =
+        omega (arith, none-fails f n (λ k l. said false (f k) (lowest-below f n (ltb-false (lowest f n) n e) k l)))

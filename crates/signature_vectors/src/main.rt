@@ -10,11 +10,6 @@ fn room() -> [u8; 4194305] {
     [0; 4194305]
 }
 
-fn print(text: &[u8], n: usize) {
-    io::write_all(1, text);
-    io::print_decimal(1, n as u64);
-}
-
 // ` TYPE:START+LENGTH`, where a blob of the type is found. The part that the lookup hands back has that length.
 fn print_found(sig: &[u8], kind: u32) {
     let span = superblob::find_span(sig, kind);
@@ -22,35 +17,34 @@ fn print_found(sig: &[u8], kind: u32) {
     if found.len() == 0 {
         return;
     }
-    print(b" ", kind as usize);
-    print(b":", span.start);
-    print(b"+", found.len());
+    corpus::print(b" ", kind as usize);
+    corpus::print(b":", span.start);
+    corpus::print(b"+", found.len());
 }
 
 fn print_fields(sig: &[u8]) {
     let d = superblob::find(sig, 0);
     let read = directory::read(d);
-    print(b" | ", superblob::find_span(sig, 0).start);
-    print(b" ", d.len());
-    print(b" ", read.version);
-    print(b" ", read.flags);
-    print(b" ", read.hash_offset);
-    print(b" ", read.ident_offset);
-    print(b" ", read.special_slots);
-    print(b" ", read.code_slots);
-    print(b" ", read.hash_size);
-    print(b" ", read.hash_type);
-    print(b" ", read.platform);
-    print(b" ", read.page_shift);
-    print(b" ", read.code_limit);
-    print(b" ", read.page_size);
-    print(b" ", read.ident_length);
+    corpus::print(b" | ", superblob::find_span(sig, 0).start);
+    corpus::print(b" ", d.len());
+    corpus::print(b" ", read.version);
+    corpus::print(b" ", read.flags);
+    corpus::print(b" ", read.hash_offset);
+    corpus::print(b" ", read.ident_offset);
+    corpus::print(b" ", read.special_slots);
+    corpus::print(b" ", read.code_slots);
+    corpus::print(b" ", read.hash_size);
+    corpus::print(b" ", read.hash_type);
+    corpus::print(b" ", read.platform);
+    corpus::print(b" ", read.page_shift);
+    corpus::print(b" ", read.code_limit);
+    corpus::print(b" ", read.page_size);
+    corpus::print(b" ", read.ident_length);
 }
 
 fn print_case(sig: &[u8]) {
     let answer = directory::tested(sig, 0);
-    print(b"", answer.number as usize);
-    print(b" ", answer.place);
+    corpus::print_answer(answer.number, answer.place);
     let mut i: usize = 0;
     while i < 11 {
         print_found(sig, KINDS[i]);

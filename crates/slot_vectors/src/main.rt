@@ -3,17 +3,8 @@
 // there) and its bytes.
 ghost use lib.ListN.{length};
 
-// The corpus, and room for a signature and the side files.
-const FILE: usize = 262144;
-
-fn print(text: &[u8], n: usize) {
-    io::write_all(1, text);
-    io::print_decimal(1, n as u64);
-}
-
-fn print_answer(number: u32, place: usize) {
-    print(b"", number as usize);
-    print(b" ", place);
+fn print_line(number: u32, place: usize) {
+    corpus::print_answer(number, place);
     io::write_all(1, b"\n");
 }
 
@@ -34,7 +25,7 @@ fn bytes<'a>(item: &'a [u8]) -> &'a [u8] {
 fn print_case(sig: &[u8], info: &[u8], resources: &[u8]) {
     let read = directory::tested(sig, 0);
     if read.number != 0 {
-        print_answer(read.number, read.place);
+        print_line(read.number, read.place);
         return;
     }
     let answer = slots::tested(
@@ -44,7 +35,7 @@ fn print_case(sig: &[u8], info: &[u8], resources: &[u8]) {
         flag(resources),
         bytes(resources),
     );
-    print_answer(answer.number, answer.place);
+    print_line(answer.number, answer.place);
 }
 
 fn print_cases(file: &[u8], sig: &mut [u8], info: &mut [u8], resources: &mut [u8]) {
@@ -72,7 +63,7 @@ fn run(file: &mut [u8], sig: &mut [u8], info: &mut [u8], resources: &mut [u8]) {
 }
 
 fn main() {
-    let mut file = [0u8; FILE];
+    let mut file = [0u8; 262144];
     let mut sig = [0u8; 16384];
     let mut info = [0u8; 4096];
     let mut resources = [0u8; 4096];

@@ -1,51 +1,27 @@
--- Bytes that are all zero, and what is wrong at a slot by the thing that it covers. Assumes nothing.
-use Prim.Native.Nat.{ℕ, zero, suc, _<_, _≤_}
-use mathlib.Core.Bool.{Bool, true, false, cond, not, _&&_, false≢true}
+-- What is wrong at a slot, by the thing that it covers. Assumes nothing.
+use Prim.Native.Nat.{ℕ, _<_, _≤_}
+use mathlib.Core.Bool.{Bool, true, false, not}
 use mathlib.Core.List.{List, [], _∷_}
 use mathlib.Core.Logic.{_⊎_, inl, inr}
 use mathlib.Core.Path.{_≡_, refl, sym, _∙_}
 use native.Mathlib.Omega.{arith}
 use lib.Dec.{eqb}
-use lib.ListN.{length, getD}
-use borrow.Author.Tests.{eq-eqb, ne-eqb, eqb-true, le-leb, lt-leb}
+use lib.ListN.{length}
+use borrow.Author.Tests.{eq-eqb, ne-eqb, le-leb, lt-leb}
 use Rattle.digest.specs.Hash.{digest}
 use Rattle.digest.specs.Sha256.{sha256}
 use Rattle.digest.specs.Same.{same}
 use Rattle.refusals.specs.Refusals.{holds, lowest, faulty, refuse, accepted, first}
 use Rattle.refusals.specs.Conditions.{says, said}
 use Rattle.refusals.specs.Positions.{lowest-none, lowest-more, lowest-fails}
-use Rattle.refusals.specs.Several.{OneOf, fault-decides}
+use Rattle.refusals.specs.Several.{fault-decides}
 use Rattle.refusals.specs.Exact.{passes}
 use Rattle.refusals.specs.declared.Answer.{Answer}
 use Rattle.layout.specs.CodeDirectory.{nSpecialSlots}
 use Rattle.superblob.specs.Rows.{blob}
 use Rattle.directory.specs.Rows.{specialSlot}
 use Rattle.slots.specs.Slots.{Sides, allZero, filled, there, thing, faultOf, fault, specialRows}
-
--- ALL ZERO
-
-zero-at : (l : List ℕ) → allZero l ≡ true → (i : ℕ) → getD l i 0 ≡ 0
-unfolding allZero
-zero-at [] e i = refl
-zero-at (b ∷ bs) e i = at-first (eqb b 0) refl e i (zero-at bs)
-  where
-    at-first : (t : Bool) → eqb b 0 ≡ t → (t && allZero bs) ≡ true → (i : ℕ) → (allZero bs ≡ true → (i : ℕ) → getD bs i 0 ≡ 0) → getD (b ∷ bs) i 0 ≡ 0
-    at-first true q e zero rest = eqb-true b 0 q
-    at-first true q e (suc i) rest = rest e i
-    at-first false q e i rest = absurd (false≢true e)
-
--- a byte that is not zero
-pub not-all-zero : (l : List ℕ) (i : ℕ) → (getD l i 0 ≡ 0 → ⊥) → false ≡ allZero l
-not-all-zero l i h = by-test (allZero l) refl
-  where
-    by-test : (t : Bool) → t ≡ allZero l → false ≡ t
-    by-test true e = absurd (h (zero-at l (sym e) i))
-    by-test false e = refl
-
-pub every-zero : (l : List ℕ) → ((i : ℕ) → i < length l → getD l i 0 ≡ 0) → true ≡ allZero l
-unfolding allZero
-every-zero [] h = refl
-every-zero (b ∷ bs) h = rw (eq-eqb b 0 (h 0 (omega arith))) (every-zero bs (λ i l. h (suc i) (omega arith)))
+use Rattle.slots.specs.Sealed.{fault-known}
 
 -- A SLOT
 
@@ -81,14 +57,6 @@ pub fault-differs : (f t a : Bool) → f ≡ true → t ≡ true → a ≡ false
 unfolding faultOf
 fault-differs f t a p q r = rw (p, q, r)
 
-fault-one : (f t a : Bool) → OneOf (21 ∷ 22 ∷ 23 ∷ []) (faultOf f t a)
-unfolding faultOf
-fault-one true false a = inl refl
-fault-one true true false = inr (inl refl)
-fault-one true true true = inr (inr (inr refl))
-fault-one false true a = inr (inr (inl refl))
-fault-one false false a = inr (inr (inr refl))
-
 module _ (s : List ℕ) (x : Sides) where
   -- by the thing that slot k covers
   abbrev at : ℕ → Bool → List ℕ → ℕ
@@ -117,14 +85,6 @@ module _ (s : List ℕ) (x : Sides) where
   unfolding fault there thing
   fault-blob k v h0 h1 h3 h4 h6 h = rw (ne-eqb k 0 h0, ne-eqb k 1 h1, ne-eqb k 3 h3, ne-eqb k 4 h4, ne-eqb k 6 h6) h
 
-  pub fault-known : (k : ℕ) → OneOf (21 ∷ 22 ∷ 23 ∷ []) (fault s x k)
-  unfolding fault
-  fault-known k = by-test (eqb k 0)
-    where
-      by-test : (t : Bool) → OneOf (21 ∷ 22 ∷ 23 ∷ []) (cond t 0 (faultOf (filled (blob s 0) k) (there s x k) (same (digest sha256 (thing s x k)) (specialSlot (blob s 0) k))))
-      by-test true = inr (inr (inr refl))
-      by-test false = fault-one (filled (blob s 0) k) (there s x k) (same (digest sha256 (thing s x k)) (specialSlot (blob s 0) k))
-
   -- slot by slot
   pub first-slot : lowest (faulty (fault s x)) 1 ≡ 1
   first-slot = lowest-more (faulty (fault s x)) 0 (lowest-none (faulty (fault s x))) (says false (faulty (fault s x) 0) (sym (fault-zero 0 refl)))
@@ -148,4 +108,4 @@ module _ (s : List ℕ) (x : Sides) where
       q
       ∙ fault-decides 12 (fault s x) (21 ∷ 22 ∷ 23 ∷ []) accepted v k e (omega arith) f
       (λ z. said true (faulty (fault s x) k) (rw e (lowest-fails (faulty (fault s x)) 12 (omega arith))) (sym f ∙ z))
-      (rw f (fault-known k))
+      (rw f (fault-known s x k))

@@ -12,6 +12,7 @@ ghost use Rattle.directory.specs.Rows.{specialSlot};
 ghost use Rattle.slots.specs.Slots.{sides, allZero, filled, faultOf, fault, specialRows};
 use layout::directory::CodeDirectory;
 use refusals::Answer;
+use refusals::answers::answer;
 
 // The slot types of the directory and of the last special slot.
 const DIRECTORY: u32 = 0;
@@ -36,12 +37,6 @@ pub fn tested(
         fault_at(sig, info_there, info, resources_there, resources, k),
         k as usize,
     )
-}
-
-fn answer(number: u32, place: usize) -> Answer
-    ensures { λ r. ⌜ r ≡ refuse number place ⌝ }
-{
-    Answer { number, place }
 }
 
 // The lowest slot at which something is wrong; 12 where nothing is.

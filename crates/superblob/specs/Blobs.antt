@@ -12,7 +12,7 @@ use lib.Seq.{getD-take, getD-drop, length-take-le}
 use Rattle.endian.specs.Numbers.{big, big-part}
 use Rattle.refusals.specs.Refusals.{Cond, lowest, first, accepted}
 use Rattle.refusals.specs.Conditions.{said, pick-yes, pick-no}
-use Rattle.refusals.specs.Positions.{lowest-below, lowest-fails, none-fails}
+use Rattle.refusals.specs.Positions.{lowest-below, lowest-fails, none-fails, lowest-most}
 use Rattle.layout.specs.SuperBlob.{count, typeAt, offsetAt, blobMagic, blobLength}
 use Rattle.superblob.specs.Rows.{magicOf, rows, ofType, position, present, blobStart, blobEnd, blob}
 use Rattle.superblob.specs.Formed.{formed, side-passes}
@@ -89,15 +89,7 @@ blob-refused s t ne =
     let b = pick-no (present s t) (offsetAt s (position s t) + blobLength s (position s t)) 0 0 (λ e. absurd (ne e)) refl in
     ap₂ (λ (n o : ℕ). take (n - o) (drop o s)) (sym b) (sym a)
 
--- a search ends at its bound
-pub lowest-most : (f : ℕ → Cond) (n : ℕ) → lowest f n ≤ n
-lowest-most f n = by-test (ltb (lowest f n) n) refl
-  where
-    by-test : (b : Bool) → ltb (lowest f n) n ≡ b → lowest f n ≤ n
-    by-test true e = omega (arith, ltb-true (lowest f n) n e)
-    by-test false e =
-        omega (arith, none-fails f n (λ k l. said false (f k) (lowest-below f n (ltb-false (lowest f n) n e) k l)))
-
+-- a position is at most the count
 pub position-most : (s : List ℕ) (t : ℕ) → position s t ≤ count s
 unfolding position
 position-most s t = lowest-most (ofType s t) (count s)

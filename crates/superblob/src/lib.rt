@@ -13,6 +13,7 @@ use layout::superblob::Blob;
 use layout::superblob::BlobIndex;
 use layout::superblob::SuperBlob;
 use refusals::Answer;
+use refusals::answers::answer;
 
 // The longest signature that is read, and the longest side file.
 const MOST_BYTES: usize = 4194304;
@@ -63,12 +64,6 @@ pub fn find<'a>(sig: &'a [u8], kind: u32) -> &'a [u8]
     let start = span.start;
     let end = span.end;
     &sig[start..end]
-}
-
-fn answer(number: u32, place: usize) -> Answer
-    ensures { λ r. ⌜ r ≡ refuse number place ⌝ }
-{
-    Answer { number, place }
 }
 
 // Tests 1 to 4: the head.

@@ -12,32 +12,6 @@ use Rattle.trustcache.specs.Rows.{formRows, entryOf, lookupRows}
 use Rattle.trustcache.specs.Launch.{launchRows}
 use Rattle.trustcache.specs.Table.{cacheRows}
 
--- A TABLE BEFORE ANOTHER, with any answer of number 0 where it passes
-
-first-stops : (rows more : List Row) (d e : Answer) → d .number ≡ 0 → (first rows d .number ≡ 0 → ⊥) → first rows d ≡ first (rows ++ more) e
-unfolding first
-first-stops [] more d e z ne = absurd (ne z)
-first-stops (row m c q ∷ rows) more d e z ne = at-row (first-stops rows more d e z) (holds c) ne
-  where
-    at-row : ((first rows d .number ≡ 0 → ⊥) → first rows d ≡ first (rows ++ more) e) → (b : Bool)
-        → (cond b (refuse m q) (first rows d) .number ≡ 0 → ⊥)
-        → cond b (refuse m q) (first rows d) ≡ cond b (refuse m q) (first (rows ++ more) e)
-    at-row f true ne = refl
-    at-row f false ne = f ne
-
-pub stops-at : (rows more : List Row) (d e a : Answer) → d .number ≡ 0 → a ≡ first rows d → (a .number ≡ 0 → ⊥) → a ≡ first (rows ++ more) e
-stops-at rows more d e a z f ne = f ∙ first-stops rows more d e z (rw (← f) ne)
-
-pub stops-alone : (rows : List Row) (d e a : Answer) → d .number ≡ 0 → a ≡ first rows d → (a .number ≡ 0 → ⊥) → a ≡ first rows e
-unfolding first
-stops-alone rows d e a z f ne = stops-at rows [] d e a z f ne ∙ first-append rows [] e
-
-pub passed-at : (rows : List Row) (d a : Answer) → Unused rows 0 → a ≡ first rows d → a .number ≡ 0 → Passes rows
-passed-at rows d a u f z = passed rows d 0 u (sym (ap (λ (x : Answer). x .number) f) ∙ z)
-
-pub goes-on : (rows more : List Row) (e b : Answer) → Passes rows → b ≡ first more e → b ≡ first (rows ++ more) e
-goes-on rows more e b h f = f ∙ passes rows (first more e) h ∙ sym (first-append rows more e)
-
 -- THE NUMBERS
 
 pub form-unused : (c : List ℕ) → Unused (formRows c) 0

@@ -14,6 +14,7 @@ const LAUNCH_TYPE: u8 = 1;
 const VALIDATION_CATEGORY: u8 = 1;
 
 // The facts of a launch.
+#[repr(C)]
 pub struct Launch {
     pub on_authorized_volume: bool,
     pub on_system_volume: bool,

@@ -17,6 +17,7 @@ pub mod make;
 pub mod pages;
 pub mod random;
 pub mod recheck;
+pub mod samples;
 pub mod sha256;
 pub mod slots;
 pub mod small;

@@ -95,7 +95,7 @@ fn overlaps(signature: &[u8], position: u64) -> bool {
 /// whole check can meet.
 pub fn test(signature: &[u8], side_file_too_long: bool) -> Result<(), Answer> {
     let lent = signature.len() as u64;
-    if lent < HEAD || lent > MOST_BYTES || side_file_too_long {
+    if !(HEAD..=MOST_BYTES).contains(&lent) || side_file_too_long {
         return refuse(1);
     }
     if be32(signature, 0) != CSMAGIC_EMBEDDED_SIGNATURE {

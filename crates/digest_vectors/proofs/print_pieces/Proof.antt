@@ -60,11 +60,11 @@ finish-requires c κs = (search needs, refl)
 write-value-requires : tie.Need-write-value-requires Inv-loop μ-loop
 write-value-requires c κs = search needs
 
-slice-aggregate-print-bytes : tie.Need-slice-aggregate-print-bytes Inv-loop μ-loop
-slice-aggregate-print-bytes c = search needs
+slice-aggregate-print-line : tie.Need-slice-aggregate-print-line Inv-loop μ-loop
+slice-aggregate-print-line c = search needs
 
-print-bytes-requires : tie.Need-print-bytes-requires Inv-loop μ-loop
-print-bytes-requires c κs = search needs
+print-line-requires : tie.Need-print-line-requires Inv-loop μ-loop
+print-line-requires c κs = search needs
 
 returns : tie.Need-returns Inv-loop μ-loop
 returns c = search needs
@@ -90,6 +90,6 @@ print-pieces-spec =
     part-finish-end
     finish-requires
     write-value-requires
-    slice-aggregate-print-bytes
-    print-bytes-requires
+    slice-aggregate-print-line
+    print-line-requires
     returns)

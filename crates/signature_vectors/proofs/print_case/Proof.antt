@@ -5,28 +5,16 @@ use Rattle.signature_vectors.proofs.print_case.Statement.{statement}
 use Rattle.signature_vectors.proofs.print_case.Tie as tie
 
 abbrev Inv-loop : tie.InvT-loop
-Inv-loop sig answer i₀ t6 i = i ≤ 11
+Inv-loop sig answer i₀ t4 i = i ≤ 11
 
 abbrev μ-loop : tie.MeasureT-loop
-μ-loop sig answer i₀ t6 i = 11 - i
+μ-loop sig answer i₀ t4 i = 11 - i
 
 tested-requires : tie.Need-tested-requires Inv-loop μ-loop
 tested-requires c κs = search needs
 
-slice-aggregate-print : tie.Need-slice-aggregate-print Inv-loop μ-loop
-slice-aggregate-print c = search needs
-
-cast-print : tie.Need-cast-print Inv-loop μ-loop
-cast-print c = search needs
-
-print-requires : tie.Need-print-requires Inv-loop μ-loop
-print-requires c κs = search needs
-
-slice-aggregate-print-2 : tie.Need-slice-aggregate-print-2 Inv-loop μ-loop
-slice-aggregate-print-2 c = search needs
-
-print-requires-2 : tie.Need-print-requires-2 Inv-loop μ-loop
-print-requires-2 c κs = search needs
+print-answer-requires : tie.Need-print-answer-requires Inv-loop μ-loop
+print-answer-requires c κs = search needs
 
 loop-holds : tie.Need-loop-holds Inv-loop μ-loop
 loop-holds c = search needs
@@ -68,11 +56,7 @@ print-case-spec =
     Inv-loop
     μ-loop
     tested-requires
-    slice-aggregate-print
-    cast-print
-    print-requires
-    slice-aggregate-print-2
-    print-requires-2
+    print-answer-requires
     loop-holds
     mul-print-found
     array-read-print-found

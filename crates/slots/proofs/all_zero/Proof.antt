@@ -1,10 +1,9 @@
--- Every byte below i is zero; a byte that is not makes the whole not all zero. Assumes nothing.
 use Prim.Native.Nat.{ℕ, _-_, _<_, _≤_}
 use mathlib.Core.Path.{_≡_}
 use native.Mathlib.Omega.{arith}
 use lib.ListN.{length, getD}
 use borrow.Author.Needs.{needs}
-use Rattle.slots.proofs.Laws.{not-all-zero, every-zero}
+use Rattle.slots.specs.Sealed.{not-all-zero, every-zero}
 use borrow.Author.Count.{below-more}
 use Rattle.slots.proofs.all_zero.Statement.{statement}
 use Rattle.slots.proofs.all_zero.Tie as tie

@@ -10,7 +10,8 @@ use Rattle.trustcache.specs.declared.launch.Launch.{Launch}
 use Rattle.trustcache.specs.Rows.{formRows, entryOf, lookupRows}
 use Rattle.trustcache.specs.Launch.{launchRows}
 use Rattle.trustcache.specs.Table.{cacheRows}
-use Rattle.trustcache.specs.Exactly.{stops-at, stops-alone, passed-at, goes-on, form-unused, lookup-unused, launch-unused, answerOf}
+use Rattle.refusals.specs.Joined.{stops-at, stops-alone, passed-at, goes-on}
+use Rattle.trustcache.specs.Exactly.{form-unused, lookup-unused, launch-unused, answerOf}
 use borrow.Author.Needs.{needs}
 use Rattle.trustcache.proofs.tested.Statement.{statement}
 use Rattle.trustcache.proofs.tested.Tie as tie

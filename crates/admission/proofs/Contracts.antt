@@ -1,0 +1,30 @@
+-- What a caller of `check` and of `recheck` learns, as the checker reads it from their contracts, is what the theorems of the demands take:
+-- `Checked` and `Rechecked`, by identity. Assumes nothing.
+use contract.Lifetimes.{Lfts}
+use denote.Ref.{now}
+use denote.Triple.Clauses.{AtExit}
+use borrow.Fn.World.{ArgsD, ResD}
+use borrow.Fn.Kinds.{endedOf}
+use Rattle.admission.specs.Input.{lent}
+use Rattle.admission.specs.Check.{Checked}
+use Rattle.admission.specs.Recheck.{recheck, Rechecked}
+use Rattle.admission.proofs.check.Reads as check-reads
+use Rattle.admission.proofs.check.Kinds as check-kinds
+use Rattle.admission.proofs.recheck.Reads as recheck-reads
+use Rattle.admission.proofs.recheck.Kinds as recheck-kinds
+
+-- arguments in order: signature, image, marks, cache, info_there, info, resources_there, resources, launch
+pub check-says : (κs : Lfts 6) (a : ArgsD Rattle.admission.proofs.check.signature κs) (r : ResD Rattle.admission.proofs.check.signature κs)
+    (e : AtExit (endedOf 6 check-kinds.ps check-kinds.r) κs)
+    → check-reads.Learnt κs a r e
+    → Checked
+    (lent (now (a .0)) (now (a .1 .0)) (now (a .1 .1 .1 .0)) (a .1 .1 .1 .1 .0) (now (a .1 .1 .1 .1 .1 .0)) (a .1 .1 .1 .1 .1 .1 .0) (now (a .1 .1 .1 .1 .1 .1 .1 .0)) (a .1 .1 .1 .1 .1 .1 .1 .1 .0))
+    (now (a .1 .1 .0)) r (now (e .1 .1 .0))
+check-says κs a r e h = h
+
+-- arguments in order: signature, start, length, bytes, marks
+pub recheck-says : (κs : Lfts 3) (a : ArgsD Rattle.admission.proofs.recheck.signature κs) (r : ResD Rattle.admission.proofs.recheck.signature κs)
+    (e : AtExit (endedOf 3 recheck-kinds.ps recheck-kinds.r) κs)
+    → recheck-reads.Learnt κs a r e
+    → Rechecked (now (a .0)) (recheck (a .1 .0) (a .1 .1 .0) (now (a .1 .1 .1 .0))) (now (a .1 .1 .1 .1 .0)) r (now (e .1 .1 .1 .1 .0))
+recheck-says κs a r e h = h

@@ -1,0 +1,128 @@
+-- Demand 1: the number answered stands at a row of the call's own table, or is 0; and where the tests before the pages pass, what is left to answer is
+-- 0 or 31, so any other answer leaves the marks.
+use Prim.Native.Nat.{ℕ}
+use mathlib.Core.Bool.{Bool, true, false, cond, _&&_, _||_}
+use mathlib.Core.List.{List, _++_}
+use mathlib.Core.Logic.{inl, inr, ⊎-elim}
+use mathlib.Core.Path.{_≡_, refl, sym, ap, _∙_}
+use lib.Dec.{T, eqb, leb, leb→le}
+use lib.ListN.{length}
+use borrow.Author.Tests.{eqb-true, leb-true}
+use Rattle.refusals.specs.declared.Answer.{Answer}
+use Rattle.refusals.specs.Refusals.{_≡?_, holds, Row, accepted, refuse, first}
+use Rattle.refusals.specs.Exact.{Unused, passes, passed}
+use Rattle.refusals.specs.Joined.{first-append}
+use Rattle.superblob.specs.Rows.{rows, headRows, indexRows}
+use Rattle.directory.specs.Rows.{fieldRows, slotRows, blobRows, directoryRows, signatureRows}
+use Rattle.slots.specs.Slots.{specialRows}
+use Rattle.trustcache.specs.Rows.{formRows, lookupRows}
+use Rattle.trustcache.specs.Launch.{launchRows}
+use Rattle.trustcache.specs.Table.{cacheRows}
+use Rattle.pages.specs.Pages.{rangeRows}
+use Rattle.pages.specs.Marks.{markRows, badRows, judged}
+use Rattle.pages.specs.Marking.{judged-number}
+use Rattle.admission.specs.Input.{Lent, marksOf}
+use Rattle.admission.specs.Check.{imageRows, countRows, checkRows, entryFor, checkTable, checkAnswer, checkMarks, CheckOutcome, checkOf}
+use Rattle.admission.specs.Recheck.{Call, recheck, inputRows, callRows, remarked, callAnswer, callMarks, CallOutcome, callOf}
+use Rattle.admission.specs.Demand1.{CheckNumber, RecheckNumber, Demand1}
+use Rattle.refusals.specs.Alike.{allIn, first-in}
+
+-- THE NUMBERS, as tests that compute
+
+abbrev checkNumber : ℕ → Bool
+checkNumber n = leb n 31
+
+abbrev recheckNumber : ℕ → Bool
+recheckNumber n = leb n 18 || (eqb n 20 || (leb 31 n && leb n 34))
+
+-- .. say what they ask
+
+is-checkNumber : (n : ℕ) → T (checkNumber n) → CheckNumber n
+is-checkNumber n h = leb→le n 31 h
+
+is-recheckNumber : (n : ℕ) → T (recheckNumber n) → RecheckNumber n
+is-recheckNumber n h = by-tests (leb n 18) refl (eqb n 20) refl (leb 31 n) refl (leb n 34) refl h
+  where
+    by-tests : (a : Bool) → leb n 18 ≡ a → (b : Bool) → eqb n 20 ≡ b → (d : Bool) → leb 31 n ≡ d → (e : Bool) → leb n 34 ≡ e
+        → T (a || (b || (d && e))) → RecheckNumber n
+    by-tests true p b q d r e u h = inl (leb-true n 18 p)
+    by-tests false p true q d r e u h = inr (inl (eqb-true n 20 q))
+    by-tests false p false q true r true u h = inr (inr (leb-true 31 n r, leb-true n 34 u))
+    by-tests false p false q true r false u h = absurd h
+    by-tests false p false q false r e u h = absurd h
+
+-- all rows of a call have such numbers, and no test before the pages has the number 0
+check-numbers : (x : Lent) (m n : ℕ) (marks : List ℕ) → T (allIn checkNumber (checkRows x m n ++ badRows marks)) × Unused (checkRows x m n) 0
+unfolding checkRows signatureRows rows headRows indexRows directoryRows blobRows fieldRows slotRows imageRows countRows specialRows cacheRows formRows lookupRows launchRows badRows
+check-numbers x m n marks = (tt, tt)
+
+call-numbers : (s : List ℕ) (c : Call) (marks new : List ℕ) → T (allIn recheckNumber (callRows s c marks ++ badRows new)) × Unused (callRows s c marks) 0
+unfolding callRows signatureRows rows headRows indexRows directoryRows blobRows fieldRows slotRows countRows inputRows rangeRows markRows badRows
+call-numbers s (recheck start size lent) marks new = (tt, tt)
+
+-- THE MARKS
+
+-- tests that leave the marks where they refuse, and else answer by the new ones
+module _ (tests : List Row) (unused : Unused tests 0) (old new : List ℕ) (place : ℕ) where
+  abbrev answer : Answer
+  answer = first (tests ++ badRows new) (refuse 0 place)
+
+  -- where they pass, the answer is the new marks'
+  judged-where : first tests accepted .number ≡ 0 → answer ≡ judged new place
+  unfolding judged
+  judged-where e =
+      first-append tests (badRows new) (refuse 0 place)
+      ∙ sym (passes tests (first (badRows new) (refuse 0 place)) (passed tests accepted 0 unused e))
+
+  -- so an answer other than 0 and 31 leaves the old ones
+  leaves : (answer .number ≡ 0 → ⊥) → (answer .number ≡ 31 → ⊥) → cond (holds (first tests accepted .number ≡? 0)) new old ≡ old
+  unfolding holds
+  leaves no-zero no-bad = by-test (eqb (first tests accepted .number) 0) refl
+    where
+      by-test : (b : Bool) → eqb (first tests accepted .number) 0 ≡ b → cond b new old ≡ old
+      by-test false e = refl
+      by-test true e =
+          let n = ap (λ (a : Answer). a .number) (judged-where (eqb-true _ 0 e)) in
+          absurd (⊎-elim (λ z. no-zero (n ∙ z)) (λ z. no-bad (n ∙ z)) (judged-number new place))
+
+-- THE CALLS
+
+module _ (x : Lent) (marks : List ℕ) where
+  -- tests 1 to 30, and their numbers
+
+  abbrev tests-of-check : List Row
+  tests-of-check = checkRows x (length (x .image)) (length marks)
+
+  numbers-of-check : T (allIn checkNumber (tests-of-check ++ badRows (marksOf (x .signature) (x .image)))) × Unused tests-of-check 0
+  numbers-of-check = check-numbers x (length (x .image)) (length marks) (marksOf (x .signature) (x .image))
+
+  check-in : CheckNumber (checkAnswer x (length marks) .number)
+  unfolding checkAnswer checkTable
+  check-in =
+      is-checkNumber _ (first-in checkNumber (tests-of-check ++ badRows (marksOf (x .signature) (x .image))) (refuse 0 (entryFor x)) (numbers-of-check .0) tt)
+
+  check-stays : (checkAnswer x (length marks) .number ≡ 0 → ⊥) → (checkAnswer x (length marks) .number ≡ 31 → ⊥) → checkMarks x marks ≡ marks
+  unfolding checkAnswer checkTable checkMarks
+  check-stays = leaves tests-of-check (numbers-of-check .1) marks (marksOf (x .signature) (x .image)) (entryFor x)
+
+module _ (s : List ℕ) (c : Call) (marks : List ℕ) where
+  call-in : RecheckNumber (callAnswer s c marks .number)
+  unfolding callAnswer
+  call-in =
+      is-recheckNumber _ (first-in recheckNumber (callRows s c marks ++ badRows (remarked s c marks)) accepted (call-numbers s c marks (remarked s c marks) .0) tt)
+
+  call-stays : (callAnswer s c marks .number ≡ 0 → ⊥) → (callAnswer s c marks .number ≡ 31 → ⊥) → callMarks s c marks ≡ marks
+  unfolding callAnswer callMarks
+  call-stays = leaves (callRows s c marks) (call-numbers s c marks (remarked s c marks) .1) marks (remarked s c marks) 0
+
+pub demand1 : Demand1
+unfolding checkOf callOf
+demand1 =
+    record {
+      check-number = λ x marks v after e. rw (ap (λ (o : CheckOutcome). o .verdict .number) e) (check-in x marks);
+      check-leaves = λ x marks v after e.
+          rw (ap (λ (o : CheckOutcome). o .verdict .number) e, ap (λ (o : CheckOutcome). o .marks) e) (check-stays x marks);
+      recheck-number = λ s c marks a after e. rw (ap (λ (o : CallOutcome). o .answer .number) e) (call-in s c marks);
+      recheck-leaves = λ s c marks a after e.
+          rw (ap (λ (o : CallOutcome). o .answer .number) e, ap (λ (o : CallOutcome). o .marks) e) (call-stays s c marks);
+    }

@@ -1,0 +1,63 @@
+-- Test 31 and the rule of the pages. A mark is 1 exactly where the page's digest is not its slot, so no mark is 1 exactly where every page
+-- agrees.
+use Prim.Native.Nat.{ℕ, _<_}
+use mathlib.Core.List.{List}
+use mathlib.Core.Path.{_≡_, sym, _∙_}
+use mathlib.Core.Bool.{false}
+use native.Mathlib.Omega.{arith}
+use lib.ListN.{length}
+use Rattle.digest.specs.Hash.{digest}
+use Rattle.digest.specs.Sha256.{sha256}
+use Rattle.refusals.specs.Refusals.{Passes}
+use Rattle.refusals.specs.Conditions.{said}
+use Rattle.refusals.specs.Positions.{lowest-below, none-fails}
+use Rattle.layout.specs.CodeDirectory.{nCodeSlots, codeLimit}
+use Rattle.pages.specs.Pages.{pageCount, pageOf}
+use Rattle.pages.specs.Marks.{slotAt, marksOf, differs, badRows}
+use Rattle.pages.specs.Marking.{mark-exact, mark-small, marks-length, marks-at}
+use Rattle.directory.specs.Pages.{P, pages}
+use Rattle.directory.specs.Rows.{codeSlot, codeSlots}
+use Rattle.directory.specs.Slots.{codeSlot-part}
+
+-- every page's digest is its slot
+abbrev pub PagesAgree : List ℕ → List ℕ → Type 0
+PagesAgree d image = (i : ℕ) → i < nCodeSlots d → digest sha256 (pageOf (P d) (codeLimit d) i image) ≡ codeSlot d i
+
+-- the slot that the marks go by is the directory's
+slot-is : (d : List ℕ) (i : ℕ) → i < nCodeSlots d → codeSlot d i ≡ slotAt (codeSlots d) i
+unfolding slotAt
+slot-is d i h = codeSlot-part d i h
+
+-- the directory's slots are as many as the pages
+as-many : (d : List ℕ) → nCodeSlots d ≡ pages d → nCodeSlots d ≡ pageCount (P d) (codeLimit d)
+unfolding pages
+as-many d e = e
+
+module _ (d image : List ℕ) (slot-a-page : nCodeSlots d ≡ pages d) where
+  abbrev marks : List ℕ
+  marks = marksOf (P d) (codeLimit d) (codeSlots d) image
+
+  -- test 31 passes exactly where every page agrees
+  pub good-pages : Passes (badRows marks) → PagesAgree d image
+  unfolding badRows differs
+  good-pages p i h =
+      let n = as-many d slot-a-page in
+      let m = marks-length (P d) (codeLimit d) (codeSlots d) image in
+      let l = said false (differs marks i) (lowest-below (differs marks) (length marks) (p .0) i (omega arith)) in
+      let a = marks-at (P d) (codeLimit d) (codeSlots d) image i (omega arith) in
+      let b = mark-small (codeSlots d) i (pageOf (P d) (codeLimit d) i image) in
+      mark-exact (codeSlots d) i (pageOf (P d) (codeLimit d) i image) .0 (omega arith) ∙ sym (slot-is d i h)
+
+  pub pages-good : PagesAgree d image → Passes (badRows marks)
+  unfolding badRows differs
+  pages-good h =
+      let n = as-many d slot-a-page in
+      let m = marks-length (P d) (codeLimit d) (codeSlots d) image in
+      let q =
+      none-fails (differs marks) (length marks)
+      (λ i l.
+      let a = marks-at (P d) (codeLimit d) (codeSlots d) image i (omega arith) in
+      let u : i < nCodeSlots d = omega arith in
+      let z = mark-exact (codeSlots d) i (pageOf (P d) (codeLimit d) i image) .1 (h i u ∙ slot-is d i u) in
+      omega arith) in
+      (omega arith, tt)

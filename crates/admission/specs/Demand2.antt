@@ -1,0 +1,41 @@
+-- Demand 2: an image is accepted exactly when every rule holds, and each refusal is given exactly when its own condition is the first to
+-- hold.
+use Prim.Native.Nat.{ℕ, _<_}
+use mathlib.Core.Bool.{cond}
+use mathlib.Core.List.{List, _++_}
+use mathlib.Core.Logic.{_⊎_, _↔_}
+use mathlib.Core.Path.{_≡_}
+use lib.ListN.{length, getD}
+use Rattle.refusals.specs.declared.Answer.{Answer}
+use Rattle.refusals.specs.Refusals.{Decides, Passes, refuse}
+use Rattle.pages.specs.Pages.{pageCount, pageOf}
+use Rattle.pages.specs.Marks.{badRows, agrees}
+use Rattle.admission.specs.declared.Verdict.{Verdict}
+use Rattle.admission.specs.Input.{Lent, pageBytesOf, limitOf, slotsOf}
+use Rattle.admission.specs.Check.{Checked, checkTable, verdictOf}
+use Rattle.admission.specs.Recheck.{Call, Rechecked, callRows, remarked}
+use Rattle.admission.specs.Admissible.{Admissible}
+
+-- a whole check
+pub record Check2 (x : Lent) (marks : List ℕ) (v : Verdict) (after : List ℕ) : Type 0 where
+  -- accepted exactly when the image may run
+  pub accepts : (v .number ≡ 0) ↔ Admissible x (length marks)
+  -- its place is then the entry that lists the directory's hash
+  pub entry : (may : Admissible x (length marks)) → v .place ≡ may .entry
+  -- refused with n at p exactly when row n of the table holds with place p and no row before it holds
+  pub refuses : (n p : ℕ) → (n ≡ 0 → ⊥) → (v ≡ verdictOf (refuse n p)) ↔ Decides (checkTable x (length marks)) n p
+  -- where it answers 0 or 31 there is one mark a page, and every mark is written: 0 exactly when the page agrees with its slot, else 1
+  pub marks-long : (v .number ≡ 0) ⊎ (v .number ≡ 31) → length after ≡ pageCount (pageBytesOf (x .signature)) (limitOf (x .signature))
+  pub marks-written : (v .number ≡ 0) ⊎ (v .number ≡ 31) → (i : ℕ) → i < pageCount (pageBytesOf (x .signature)) (limitOf (x .signature))
+      → getD after i 0
+      ≡ cond (agrees (slotsOf (x .signature)) i (pageOf (pageBytesOf (x .signature)) (limitOf (x .signature)) i (x .image))) 0 1
+
+-- a recheck
+pub record Recheck2 (s : List ℕ) (c : Call) (marks : List ℕ) (a : Answer) : Type 0 where
+  pub accepts : (a .number ≡ 0) ↔ Passes (callRows s c marks ++ badRows (remarked s c marks))
+  pub place : a .number ≡ 0 → a .place ≡ 0
+  pub refuses : (n p : ℕ) → (n ≡ 0 → ⊥) → (a ≡ refuse n p) ↔ Decides (callRows s c marks ++ badRows (remarked s c marks)) n p
+
+pub record Demand2 : Type 0 where
+  pub check : (x : Lent) (marks : List ℕ) (v : Verdict) (after : List ℕ) → Checked x marks v after → Check2 x marks v after
+  pub recheck : (s : List ℕ) (c : Call) (marks : List ℕ) (a : Answer) (after : List ℕ) → Rechecked s c marks a after → Recheck2 s c marks a

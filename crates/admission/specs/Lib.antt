@@ -1,0 +1,9 @@
+pub mod Input
+pub mod Check
+pub mod Recheck
+pub mod Admissible
+pub mod Demand1
+pub mod Demand2
+pub mod Demand3
+pub mod Ignored
+pub mod Measured

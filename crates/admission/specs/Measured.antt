@@ -1,0 +1,47 @@
+-- Document 01, "Measured on both sides": the starred examples, one table under one statement, computed from the definitions that the rows
+-- cite. The first twelve lines are those of head sizes and page counts (`Rattle.directory.specs.Measured`).
+use Prim.Native.Nat.{ℕ}
+use mathlib.Core.List.{List, [], _∷_, _++_}
+use mathlib.Core.Path.{refl}
+use Rattle.endian.specs.Numbers.{big}
+use Rattle.refusals.specs.Refusals.{pick, holds, lowest, accepted, first}
+use Rattle.refusals.specs.Ranges.{lookup}
+use Rattle.layout.specs.CodeDirectory.{version, hashOffset, identOffset, nSpecialSlots, nCodeSlots, codeLimit, hashSize, hashType, pageSize, codeLimit64}
+use Rattle.pages.specs.Pages.{pageBytes, pageCount, metFirst, metEnd, wanted, rangeRows}
+use Rattle.directory.specs.Pages.{P, pages}
+use Rattle.directory.specs.Rows.{headSizes, headSize, headOf, specialOutside, codeOutside, zeroAt, identLength, fieldRows, slotRows, blobRows}
+use Rattle.directory.specs.Measured.{Example, _gives_, Hold, hold-append, measured, measured-holds}
+
+-- the head of a directory of version 0x20601
+abbrev pub newer : List ℕ
+newer = 0xFA ∷ 0xDE ∷ 0x0C ∷ 0x02 ∷ 0 ∷ 0 ∷ 0 ∷ 12 ∷ 0x00 ∷ 0x02 ∷ 0x06 ∷ 0x01 ∷ []
+
+-- what a range wants of a code limit of 8193 in pages of 4096 bytes
+abbrev pub wantedOf : ℕ → ℕ → ℕ
+wantedOf start size = wanted (pageBytes 12 8193) 8193 start size
+
+-- the number that tests 32 and 33 give to that range where it is lent n bytes
+abbrev pub rangeNumber : ℕ → ℕ → ℕ → ℕ
+rangeNumber start size n = first (rangeRows (pageBytes 12 8193) 8193 start size n) accepted .number
+
+abbrev pub more : List Example
+more =
+    first (blobRows newer) accepted .number gives 11
+    ∷ wantedOf 4095 2 gives 8192
+    ∷ rangeNumber 4095 2 8192 gives 0
+    ∷ wantedOf 8192 1 gives 1
+    ∷ rangeNumber 8192 1 1 gives 0
+    ∷ rangeNumber 8192 2 1 gives 32
+    ∷ wantedOf 8193 0 gives 0
+    ∷ rangeNumber 8193 0 0 gives 0
+    ∷ []
+
+abbrev pub Measured : Type 0
+Measured = Hold (measured ++ more)
+
+more-holds : Hold more
+unfolding big pick holds lowest first lookup version hashOffset identOffset nSpecialSlots nCodeSlots codeLimit hashSize hashType pageSize codeLimit64 pageBytes pageCount metFirst metEnd rangeRows P pages headSizes headSize headOf specialOutside codeOutside zeroAt identLength fieldRows slotRows blobRows
+more-holds = (refl, (refl, (refl, (refl, (refl, (refl, (refl, (refl, tt))))))))
+
+pub measured-table : Measured
+measured-table = hold-append measured more measured-holds more-holds

@@ -1,0 +1,37 @@
+-- The number of marks that are lent, and the verdict of a check that is lent so many. Assumes nothing.
+use Prim.Native.Nat.{ℕ, _-_, _≤_}
+use mathlib.Core.List.{List}
+use mathlib.Core.Path.{_≡_, refl, sym, ap, _∙_}
+use native.Mathlib.Omega.{arith}
+use lib.ListN.{length, take, drop}
+use lib.Seq.{length-take-le}
+use Rattle.refusals.specs.declared.Answer.{Answer}
+use Rattle.refusals.specs.Refusals.{accepted, first}
+use Rattle.refusals.specs.Conditions.{pick-yes, pick-no}
+use Rattle.layout.specs.CodeDirectory.{nCodeSlots}
+use Rattle.superblob.specs.Rows.{blob}
+use Rattle.directory.specs.Rows.{signatureRows}
+use Rattle.directory.specs.Formed.{directory-read}
+use Rattle.admission.specs.declared.Verdict.{Verdict}
+use Rattle.admission.specs.Check.{CheckOutcome, checkOf, checkAnswer, verdictOf, Checked}
+use Rattle.admit_run.specs.Small.{marksWanted, files, smallVerdict}
+
+module _ (s : List ℕ) (a : Answer) (e : a ≡ first (signatureRows 0 s) accepted) where
+  pub wanted-none : (a .number ≡ 0 → ⊥) → 0 ≡ marksWanted s
+  unfolding marksWanted
+  wanted-none h = pick-no _ _ _ _ (λ z. h (ap (λ (x : Answer). x .number) e ∙ z)) refl
+
+  pub wanted-some : (n : ℕ) → n ≡ nCodeSlots (blob s 0) → a .number ≡ 0 → (n ≡ marksWanted s) × (n ≤ 65536)
+  unfolding marksWanted
+  wanted-some n q h =
+      let z : first (signatureRows 0 s) accepted .number ≡ 0 = sym (ap (λ (x : Answer). x .number) e) ∙ h in
+      let w = directory-read 0 s z .directory .few-code-slots in
+      (pick-yes _ _ _ _ z q, omega arith)
+
+pub verdict-is : (s image cache marks : List ℕ) (n : ℕ) (v : Verdict) (after : List ℕ) → n ≡ marksWanted s → n ≤ length marks
+    → Checked (files s image cache) (take (n - 0) (drop 0 marks)) v after → v ≡ smallVerdict s image cache
+unfolding smallVerdict checkOf
+verdict-is s image cache marks n v after e h c =
+    let z : n - 0 ≡ marksWanted s = omega arith in
+    ap (λ (o : CheckOutcome). o .verdict) c
+    ∙ ap (λ (m : ℕ). verdictOf (checkAnswer (files s image cache) m)) (length-take-le (n - 0) marks (omega arith) ∙ z)

@@ -1,0 +1,27 @@
+-- Where tests 1 to 18 pass the directory has at most 65,536 slots; elsewhere none is wanted. Assumes nothing.
+use mathlib.Core.Path.{ap, _∙_}
+use native.Mathlib.Omega.{arith}
+use Rattle.layout.specs.CodeDirectory.{nCodeSlots}
+use Rattle.admit_run.proofs.Laws.{wanted-none, wanted-some}
+use borrow.Author.Needs.{needs}
+use Rattle.admit_run.proofs.marks_wanted.Statement.{statement}
+use Rattle.admit_run.proofs.marks_wanted.Tie as tie
+
+tested-requires : tie.Need-tested-requires
+tested-requires c κs = search needs
+
+returns : tie.Need-returns
+returns c = (wanted-none _ _ (c .before .before .tested .ensures) (omega arith), omega arith)
+
+find-requires : tie.Need-find-requires
+find-requires c κs = search needs
+
+read-requires : tie.Need-read-requires
+read-requires c κs = search needs
+
+returns-2 : tie.Need-returns-2
+returns-2 c = wanted-some _ _ (c .before .before .before .before .tested .ensures) _ (c .read .ensures .nCodeSlots-is ∙ ap nCodeSlots (c .before .find .ensures)) (omega arith)
+
+pub marks-wanted-spec : {M : Type 1} → statement M
+marks-wanted-spec =
+    tie.close (tie.spec tested-requires returns find-requires read-requires returns-2)

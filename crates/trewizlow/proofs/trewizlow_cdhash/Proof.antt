@@ -1,0 +1,31 @@
+-- The same two ways as in reading: zeros, or the digest of the directory cut to 20. Assumes nothing.
+use mathlib.Core.Path.{_∙_}
+use Rattle.trewizlow.proofs.Laws.{refused-hash, passed-hash}
+use mathlib.Core.Path.{refl}
+use native.Mathlib.Omega.{arith}
+use borrow.Author.Needs.{needs}
+use Rattle.trewizlow.proofs.trewizlow_cdhash.Statement.{statement}
+use Rattle.trewizlow.proofs.trewizlow_cdhash.Tie as tie
+
+tested-requires : tie.Need-tested-requires
+tested-requires c κs = search needs
+
+returns : tie.Need-returns
+returns c = refused-hash _ _ (c .before .before .tested .ensures) _ refl refl (omega arith)
+
+find-requires : tie.Need-find-requires
+find-requires c κs = search needs
+
+digest-requires : tie.Need-digest-requires
+digest-requires c κs = search needs
+
+cut-requires : tie.Need-cut-requires
+cut-requires c κs = search needs
+
+returns-2 : tie.Need-returns-2
+returns-2 c = passed-hash _ _ (c .before .before .before .before .before .tested .ensures) _ refl (c .cut .ensures ∙ rw (c .before .digest .ensures, c .before .before .find .ensures)) (omega arith)
+
+pub trewizlow-cdhash-spec : {M : Type 1} → statement M
+trewizlow-cdhash-spec =
+    tie.close
+    (tie.spec tested-requires returns find-requires digest-requires cut-requires returns-2)
