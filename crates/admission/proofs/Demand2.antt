@@ -27,7 +27,7 @@ use Rattle.pages.specs.Marks.{agrees, markOf, markRows, badRows}
 use Rattle.pages.specs.Marking.{marks-at, marks-length}
 use Rattle.admission.specs.Input.{Lent, longest, cdhash, pageBytesOf, limitOf, slotsOf, marksOf}
 use Rattle.admission.specs.Check.{imageRows, countRows, checkRows, entryFor, checkTable, checkAnswer, checkMarks, verdictOf, CheckOutcome, checkOf}
-use Rattle.admission.specs.Recheck.{Call, recheck, inputRows, callRows, remarked, callAnswer, CallOutcome, callOf}
+use Rattle.admission.specs.Recheck.{Call, recheck, inputRows, callRows, remarked, callAnswer, callMarks, CallOutcome, callOf}
 use Rattle.admission.specs.Admissible.{blobAt, DirectoryFormed, Sealed, Admissible}
 use Rattle.admission.specs.Demand3.{answerOf}
 use Rattle.admission.specs.Demand2.{Check2, Recheck2, Demand2}
@@ -129,9 +129,9 @@ module _ (x : Lent) (m : ℕ) where
         superblob = f .superblob;
         info-short = short .0;
         resources-short = short .1;
-        place = position s 0;
-        place-below = f .has-directory;
-        place-type = found .type-is;
+        position = position s 0;
+        position-below = f .has-directory;
+        position-type = found .type-is;
         directory = r .directory;
         image-long = r .image-long;
         one-mark-a-page = r .one-mark-a-page;
@@ -151,7 +151,7 @@ module _ (x : Lent) (m : ℕ) where
     -- the directory is the blob that the lookup finds
     may-rules : Rules x m (blob s 0) (may .entry)
     may-rules =
-        subst (λ (d : List ℕ). Rules x m d (may .entry)) (sym (blob-is s (may .superblob) (may .place) 0 (may .place-below) (may .place-type)))
+        subst (λ (d : List ℕ). Rules x m d (may .entry)) (sym (blob-is s (may .superblob) (may .position) 0 (may .position-below) (may .position-type)))
         (record {
           directory = may .directory;
           image-long = may .image-long;
@@ -179,7 +179,7 @@ module _ (x : Lent) (m : ℕ) where
               (record {
                 superblob = may .superblob;
                 short = sides-short (x .sides) 4194304 .1 (may .info-short, may .resources-short);
-                has-directory = has-position s (may .superblob) (may .place) 0 (may .place-below) (may .place-type);
+                has-directory = has-position s (may .superblob) (may .position) 0 (may .position-below) (may .position-type);
                 directory = r .directory;
               });
           image = (r .image-long, tt);
@@ -269,28 +269,52 @@ check2 x marks =
           λ e i h. ap (λ (l : List ℕ). getD l i 0) (marks-left x marks (rows-pass e)) ∙ mark-written (x .signature) (x .image) i h;
     }
 
--- a recheck's rows have distinct numbers, none of them 0
-call-numbers : (s : List ℕ) (c : Call) (marks : List ℕ)
-    → Unused (callRows s c marks ++ badRows (remarked s c marks)) 0 × Distinct (callRows s c marks ++ badRows (remarked s c marks))
-unfolding callRows inputRows rangeRows markRows signatureRows rows headRows indexRows directoryRows blobRows fieldRows slotRows countRows badRows
-call-numbers s (recheck start size lent) marks = (tt, tt)
+module _ (s : List ℕ) (c : Call) (marks : List ℕ) where
+  abbrev tests : List Row
+  tests = callRows s c marks
 
--- of what a recheck answers
-recheck2 : (s : List ℕ) (c : Call) (marks : List ℕ) → Recheck2 s c marks (callOf s c marks .answer)
+  abbrev pages : List Row
+  pages = badRows (remarked s c marks)
+
+  -- a recheck's rows have distinct numbers, none of them 0, and none before the pages gives 31
+  record CallNumbers : Type 0 where
+    no-zero : Unused (tests ++ pages) 0
+    distinct : Distinct (tests ++ pages)
+    tests-no-zero : Unused tests 0
+    tests-no-31 : Unused tests 31
+
+  -- where the answer is a number that none of those before the pages gives, they pass
+  tests-passed : (n : ℕ) → Unused tests n → callAnswer s c marks .number ≡ n → Passes tests
+  unfolding callAnswer
+  tests-passed n u e = passed tests (first pages accepted) n u (ap (λ (a : Answer). a .number) (sym (first-append tests pages accepted)) ∙ e)
+
+  -- then the marks left are the new ones
+  call-left : Passes tests → callMarks s c marks ≡ remarked s c marks
+  unfolding callMarks
+  call-left p = rw (← says true (first tests accepted .number ≡? 0) (sym (ap (λ (a : Answer). a .number) (passes tests accepted p))))
+
+call-numbers : (s : List ℕ) (c : Call) (marks : List ℕ) → CallNumbers s c marks
+unfolding callRows inputRows rangeRows markRows signatureRows rows headRows indexRows directoryRows blobRows fieldRows slotRows countRows badRows
+call-numbers s (recheck start size lent) marks = record { no-zero = tt; distinct = tt; tests-no-zero = tt; tests-no-31 = tt }
+
+-- of what a recheck answers and leaves
+recheck2 : (s : List ℕ) (c : Call) (marks : List ℕ) → Recheck2 s c marks (callOf s c marks .answer) (callOf s c marks .marks)
 unfolding callOf callAnswer
 recheck2 s c marks =
     let table = callRows s c marks ++ badRows (remarked s c marks) in
     let n = call-numbers s c marks in
-    let zero = zero-exactly table accepted (n .0) (n .1) refl in
+    let zero = zero-exactly table accepted (n .no-zero) (n .distinct) refl in
     record {
       accepts = zero;
       place = λ e. sym (ap (λ (a : Answer). a .place) (passes table accepted (zero .0 e)));
-      refuses = number-exactly table accepted (n .0) (n .1) refl;
+      refuses = number-exactly table accepted (n .no-zero) (n .distinct) refl;
+      marks-written =
+          λ e. call-left s c marks (⊎-elim (tests-passed s c marks 0 (n .tests-no-zero)) (tests-passed s c marks 31 (n .tests-no-31)) e);
     }
 
 pub demand2 : Demand2
 demand2 =
     record {
       check = λ x marks v after e. subst (λ (o : CheckOutcome). Check2 x marks (o .verdict) (o .marks)) (sym e) (check2 x marks);
-      recheck = λ s c marks a after e. subst (λ (o : CallOutcome). Recheck2 s c marks (o .answer)) (sym e) (recheck2 s c marks);
+      recheck = λ s c marks a after e. subst (λ (o : CallOutcome). Recheck2 s c marks (o .answer) (o .marks)) (sym e) (recheck2 s c marks);
     }

@@ -1,20 +1,26 @@
 -- Two whole checks that differ in what nothing depends on answer the same and leave the same marks: tests 1 to 9 answer the same and the blobs that
--- are read are equal (SameRead.antt), all else is read from those blobs, and marks depend on the image below the limit alone.
+-- are read are equal (SameRead.antt), all else is read from those blobs, a side file is read only where its flag is on, and marks depend on the
+-- image below the limit alone.
 use Prim.Native.Nat.{ℕ, _<_, _≤_}
+use mathlib.Core.Bool.{Bool, true, false, cond, not, _&&_, true≢false, false≢true}
 use mathlib.Core.List.{List, [], _∷_, _++_}
 use mathlib.Core.Logic.{⊎-elim}
-use mathlib.Core.Path.{_≡_, sym, ap, ap₂, _∙_}
+use mathlib.Core.Path.{_≡_, refl, sym, ap, ap₂, _∙_}
 use native.Mathlib.Omega.{arith}
+use lib.Dec.{eqb}
 use lib.ListN.{length, getD, take, length-take}
 use lib.Seq.{ext-getD, getD-take}
+use Rattle.digest.specs.Hash.{digest}
+use Rattle.digest.specs.Sha256.{sha256}
+use Rattle.digest.specs.Same.{same}
 use Rattle.refusals.specs.declared.Answer.{Answer}
 use Rattle.refusals.specs.Refusals.{Row, accepted, refuse, first, Passes}
 use Rattle.refusals.specs.Joined.{first-append}
 use Rattle.layout.specs.CodeDirectory.{codeLimit}
-use Rattle.superblob.specs.Rows.{rows}
+use Rattle.superblob.specs.Rows.{rows, blob}
 use Rattle.directory.specs.Pages.{P}
-use Rattle.directory.specs.Rows.{codeSlots, directoryRows, signatureRows}
-use Rattle.slots.specs.Slots.{Sides, there, thing, fault, specialRows}
+use Rattle.directory.specs.Rows.{codeSlots, specialSlot, directoryRows, signatureRows}
+use Rattle.slots.specs.Slots.{Sides, filled, nothing, there, thing, faultOf, fault, specialRows}
 use Rattle.pages.specs.Marks as Marks
 use Rattle.pages.specs.Marks.{badRows}
 use Rattle.pages.specs.Marking.{marks-below}
@@ -73,6 +79,59 @@ module _ (s t : List ℕ) (same : SameRead s t) where
   unfolding countRows
   countRows-same n = rw directory-same
 
+-- THE SIDE FILES
+
+-- a length that counts only behind a flag
+long-same : (a b : Bool) (l m : List ℕ) → a ≡ b → (a ≡ true → l ≡ m) → cond a (length l) 0 ≡ cond b (length m) 0
+long-same true true l m e h = ap length (h refl)
+long-same true false l m e h = absurd (true≢false e)
+long-same false true l m e h = absurd (false≢true e)
+long-same false false l m e h = refl
+
+-- and a fault: of a thing that is not there no digest counts
+faultOf-same : (f a b : Bool) (l m slot : List ℕ) → a ≡ b → (a ≡ true → l ≡ m)
+    → faultOf f a (same (digest sha256 l) slot) ≡ faultOf f b (same (digest sha256 m) slot)
+unfolding faultOf
+faultOf-same f true true l m slot e h = rw (h refl)
+faultOf-same f true false l m slot e h = absurd (true≢false e)
+faultOf-same f false true l m slot e h = absurd (false≢true e)
+faultOf-same true false false l m slot e h = refl
+faultOf-same false false false l m slot e h = refl
+
+module _ (x y : Sides) (info-flag : x .infoThere ≡ y .infoThere) (info-bytes : x .infoThere ≡ true → x .info ≡ y .info)
+    (resources-flag : x .resourcesThere ≡ y .resourcesThere) (resources-bytes : x .resourcesThere ≡ true → x .resources ≡ y .resources) where
+  longest-same : longest x ≡ longest y
+  unfolding longest
+  longest-same =
+      rw (
+        long-same (x .infoThere) (y .infoThere) (x .info) (y .info) info-flag info-bytes,
+        long-same (x .resourcesThere) (y .resourcesThere) (x .resources) (y .resources) resources-flag resources-bytes,
+      )
+
+  there-same : (s : List ℕ) (k : ℕ) → there s x k ≡ there s y k
+  unfolding there
+  there-same s k = rw (info-flag, resources-flag)
+
+  thing-same : (s : List ℕ) (k : ℕ) → there s x k ≡ true → thing s x k ≡ thing s y k
+  unfolding there thing
+  thing-same s k = by-test (eqb k 1) (eqb k 3)
+    where
+      by-test : (a b : Bool) → cond a (x .infoThere) (cond b (x .resourcesThere) (not (nothing k) && not (eqb (length (blob s k)) 0))) ≡ true
+          → cond a (x .info) (cond b (x .resources) (blob s k)) ≡ cond a (y .info) (cond b (y .resources) (blob s k))
+      by-test true b h = info-bytes h
+      by-test false true h = resources-bytes h
+      by-test false false h = refl
+
+  sides-fault : (s : List ℕ) (k : ℕ) → fault s x k ≡ fault s y k
+  unfolding fault
+  sides-fault s k =
+      ap (cond (eqb k 0) 0)
+      (faultOf-same (filled (blob s 0) k) (there s x k) (there s y k) (thing s x k) (thing s y k) (specialSlot (blob s 0) k) (there-same s k) (thing-same s k))
+
+  sides-rows : (s : List ℕ) → specialRows s x ≡ specialRows s y
+  unfolding specialRows
+  sides-rows s = among-same 12 (fault s x) (fault s y) (21 ∷ 22 ∷ 23 ∷ []) (λ k h. sides-fault s k)
+
 -- THE IMAGE
 
 -- two lists of one length that agree below a limit are the same up to it
@@ -106,18 +165,28 @@ module _ (x y : Lent) (alike : Alike x y) where
   unfolding entryFor
   entry-same = rw (alike .caches, cdhash-same s t (alike .signatures))
 
+  -- what is read of the side files
+
+  side-same : longest (x .sides) ≡ longest (y .sides)
+  side-same = longest-same (x .sides) (y .sides) (alike .info-flag) (alike .info-bytes) (alike .resources-flag) (alike .resources-bytes)
+
+  special-same : specialRows s (x .sides) ≡ specialRows t (y .sides)
+  special-same =
+      specialRows-same s t (alike .signatures) (x .sides)
+      ∙ sides-rows (x .sides) (y .sides) (alike .info-flag) (alike .info-bytes) (alike .resources-flag) (alike .resources-bytes) t
+
   -- tests 1 to 30 answer the same, whatever stands behind them
   checkRows-same : (n : ℕ) (done : Answer) → first (checkRows x (length (x .image)) n) done ≡ first (checkRows y (length (y .image)) n) done
   unfolding checkRows
   checkRows-same n done =
       rw (
-        alike .side-files,
+        side-same,
         alike .caches,
         alike .launches,
         alike .image-long,
         imageRows-same s t (alike .signatures),
         countRows-same s t (alike .signatures),
-        specialRows-same s t (alike .signatures),
+        special-same,
         cdhash-same s t (alike .signatures),
       )
       (behind _)

@@ -136,7 +136,10 @@ images x marks v after events c z t f n =
     one-after (x .signature) (λ i. false) (opened (x .image)) (x .image) events (r .fits)
     (record { long = r .long; same = refl; past = refl; pages = λ i u e. refl }) f n in
     let p = rw q at (held-passes x (length marks) (s .passing) _ h) in (
-      rw (s .left, whole-marks (withImage x (imageAfter (x .image) events)) marks p, ← q)
-          (chain-marks x (length marks) (s .passing) (opened (x .image)) (madeIn events) (held-opened x) (rw (s .left) at t)),
-      rw (← q) (chains x marks v after (madeIn events) c z t .1 .1),
+      q,
+      (
+        rw (s .left, whole-marks (withImage x (imageAfter (x .image) events)) marks p, ← q)
+            (chain-marks x (length marks) (s .passing) (opened (x .image)) (madeIn events) (held-opened x) (rw (s .left) at t)),
+        rw (← q) (chains x marks v after (madeIn events) c z t .1 .1),
+      ),
     )

@@ -3,7 +3,7 @@
 use Prim.Native.Nat.{ℕ, _+_, _-_, _<_, _≤_}
 use mathlib.Core.Bool.{Bool, true, false, cond, false≢true}
 use mathlib.Core.List.{List}
-use mathlib.Core.Logic.{_⊎_, inl, inr, ⊎-elim, _↔_}
+use mathlib.Core.Logic.{_⊎_, inl, inr, _↔_}
 use mathlib.Core.Path.{_≡_, refl, sym, ap, _∙_}
 use native.Mathlib.Omega.{arith}
 use lib.Dec.{ltb}
@@ -13,12 +13,12 @@ use Rattle.refusals.specs.declared.Answer.{Answer}
 use Rattle.refusals.specs.Refusals.{_<?_, pick, accepted, Passes}
 use Rattle.refusals.specs.Conditions.{pick-yes, pick-no}
 use Rattle.refusals.specs.Exact.{passes}
-use Rattle.refusals.specs.Positions.{none-fails, first-fails, some-fails}
+use Rattle.refusals.specs.Positions.{first-fails, some-fails}
 use Rattle.refusals.specs.Joined.{append-passes, passes-append}
-use Rattle.layout.specs.SuperBlob.{count, typeAt, offsetAt, blobLength}
+use Rattle.layout.specs.SuperBlob.{count, typeAt}
 use Rattle.layout.specs.CodeDirectory.{identOffset, pageSize}
-use Rattle.superblob.specs.Rows.{unknown, sameType, repeated, outside, wrongMagic, shared, overlaps, headRows, indexRows, rows, ofType, position, blob}
-use Rattle.superblob.specs.Formed.{Formed}
+use Rattle.superblob.specs.Rows.{headRows, rows, ofType, position, blob}
+use Rattle.superblob.specs.Formed.{Formed, formed-passes}
 use Rattle.superblob.specs.Blobs.{FoundBlob, found-blob}
 use Rattle.directory.specs.Rows.{zeroAt, identLength, fieldRows, slotRows, blobRows, directoryRows, signatureRows}
 use Rattle.directory.specs.Slots.{slots-inside}
@@ -28,26 +28,6 @@ use Rattle.admission.specs.Input.{longest}
 use Rattle.admission.specs.Admissible.{blobAt, DirectoryFormed}
 
 -- THE SUPERBLOB
-
--- no blob shares a byte with one before it
-apart-passes : (a la b lb : ℕ) → (b + lb ≤ a) ⊎ (a + la ≤ b) → a < b + lb → a + la ≤ b
-apart-passes a la b lb h l = ⊎-elim (λ u. absurd (omega arith)) (λ u. u) h
-
--- tests 1 to 9 pass where the SuperBlob is well formed and no side file is too long
-pub rows-pass : (side : ℕ) (s : List ℕ) → Formed s → side ≤ 4194304 → Passes (rows side s)
-unfolding rows headRows indexRows unknown sameType repeated outside wrongMagic shared overlaps
-rows-pass side s f l =
-    let known = none-fails (unknown s) (count s) (λ i h. f .inside i h .known) in
-    let once =
-    none-fails (repeated s) (count s)
-    (λ i h. let q = none-fails (sameType s i) i (λ j u. f .distinct j i u h) in omega arith) in
-    let inside = none-fails (outside s) (count s) (λ i h. let o = f .inside i h in (omega arith)) in
-    let magic = none-fails (wrongMagic s) (count s) (λ i h. f .inside i h .right-magic) in
-    let apart =
-    none-fails (overlaps s) (count s)
-    (λ i h. let q = none-fails (shared s i) i (λ j u. apart-passes (offsetAt s i) (blobLength s i) (offsetAt s j) (blobLength s j) (f .apart j i u h)) in
-    omega arith) in
-    omega arith
 
 -- test 1 limits the side files
 rows-side : (side : ℕ) (s : List ℕ) → Passes (rows side s) → side ≤ 4194304
@@ -62,7 +42,7 @@ module _ (s : List ℕ) (f : Formed s) where
 
   -- the lookup finds the blob of a type that the index has
   pub finds : (k : ℕ) → position s k < count s → FoundBlob s k
-  finds k h = found-blob 0 s k (sym (ap (λ (a : Answer). a .number) (passes (rows 0 s) accepted (rows-pass 0 s f (omega arith))))) h
+  finds k h = found-blob 0 s k (sym (ap (λ (a : Answer). a .number) (passes (rows 0 s) accepted (formed-passes 0 s f (omega arith))))) h
 
   -- a type that the index has, has a position
   pub has-position : (i k : ℕ) → i < count s → typeAt s i ≡ k → position s k < count s
@@ -192,5 +172,5 @@ module _ (side : ℕ) (s : List ℕ) where
   pub signature-passes : SignatureFormed side s → Passes (signatureRows side s)
   unfolding signatureRows directoryRows
   signature-passes f =
-      passes-append (rows side s) (directoryRows s) (rows-pass side s (f .superblob) (f .short))
+      passes-append (rows side s) (directoryRows s) (formed-passes side s (f .superblob) (f .short))
       ((λ e. omega (arith, f .has-directory)), directory-passes (blob s 0) (f .directory))

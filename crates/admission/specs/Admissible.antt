@@ -89,21 +89,21 @@ pub record Admissible (x : Lent) (marksLength : ℕ) : Type 0 where
   pub info-short : x .sides .infoThere ≡ true → length (x .sides .info) ≤ 4194304
   pub resources-short : x .sides .resourcesThere ≡ true → length (x .sides .resources) ≤ 4194304
   -- a blob of type 0 is there
-  pub place : ℕ
-  pub place-below : place < count (x .signature)
-  pub place-type : typeAt (x .signature) place ≡ 0
-  pub directory : DirectoryFormed (blobAt (x .signature) place)
-  pub image-long : codeLimit (blobAt (x .signature) place) ≤ length (x .image)
-  pub one-mark-a-page : marksLength ≡ nCodeSlots (blobAt (x .signature) place)
-  pub special-slots : (k : ℕ) → 1 ≤ k → k ≤ 11 → Sealed (x .signature) (x .sides) (blobAt (x .signature) place) k
+  pub position : ℕ
+  pub position-below : position < count (x .signature)
+  pub position-type : typeAt (x .signature) position ≡ 0
+  pub directory : DirectoryFormed (blobAt (x .signature) position)
+  pub image-long : codeLimit (blobAt (x .signature) position) ≤ length (x .image)
+  pub one-mark-a-page : marksLength ≡ nCodeSlots (blobAt (x .signature) position)
+  pub special-slots : (k : ℕ) → 1 ≤ k → k ≤ 11 → Sealed (x .signature) (x .sides) (blobAt (x .signature) position) k
   pub cache : CacheFormed (x .cache)
   -- an entry lists the directory's hash, cut to 20 bytes, under its type
   pub entry : ℕ
   pub entry-below : entry < entryCount (x .cache)
-  pub entry-hash : hashNumber (x .cache) entry ≡ big 20 (take 20 (digest sha256 (blobAt (x .signature) place))) 0
+  pub entry-hash : hashNumber (x .cache) entry ≡ big 20 (take 20 (digest sha256 (blobAt (x .signature) position))) 0
   pub entry-type : hashTypeAt (x .cache) entry ≡ 2
   pub constraints : (categoryAt (x .cache) entry ≡ 0) ⊎ ((categoryAt (x .cache) entry ≡ 1) × Constrained (x .facts))
   -- every page's digest is its slot
-  pub pages-agree : (i : ℕ) → i < nCodeSlots (blobAt (x .signature) place)
-      → digest sha256 (pageOf (P (blobAt (x .signature) place)) (codeLimit (blobAt (x .signature) place)) i (x .image))
-      ≡ codeSlot (blobAt (x .signature) place) i
+  pub pages-agree : (i : ℕ) → i < nCodeSlots (blobAt (x .signature) position)
+      → digest sha256 (pageOf (P (blobAt (x .signature) position)) (codeLimit (blobAt (x .signature) position)) i (x .image))
+      ≡ codeSlot (blobAt (x .signature) position) i

@@ -31,11 +31,13 @@ pub record Check2 (x : Lent) (marks : List ℕ) (v : Verdict) (after : List ℕ)
       ≡ cond (agrees (slotsOf (x .signature)) i (pageOf (pageBytesOf (x .signature)) (limitOf (x .signature)) i (x .image))) 0 1
 
 -- a recheck
-pub record Recheck2 (s : List ℕ) (c : Call) (marks : List ℕ) (a : Answer) : Type 0 where
+pub record Recheck2 (s : List ℕ) (c : Call) (marks : List ℕ) (a : Answer) (after : List ℕ) : Type 0 where
   pub accepts : (a .number ≡ 0) ↔ Passes (callRows s c marks ++ badRows (remarked s c marks))
   pub place : a .number ≡ 0 → a .place ≡ 0
   pub refuses : (n p : ℕ) → (n ≡ 0 → ⊥) → (a ≡ refuse n p) ↔ Decides (callRows s c marks ++ badRows (remarked s c marks)) n p
+  -- where it answers 0 or 31 the marks of the pages met are written anew, and the others are as they were
+  pub marks-written : (a .number ≡ 0) ⊎ (a .number ≡ 31) → after ≡ remarked s c marks
 
 pub record Demand2 : Type 0 where
   pub check : (x : Lent) (marks : List ℕ) (v : Verdict) (after : List ℕ) → Checked x marks v after → Check2 x marks v after
-  pub recheck : (s : List ℕ) (c : Call) (marks : List ℕ) (a : Answer) (after : List ℕ) → Rechecked s c marks a after → Recheck2 s c marks a
+  pub recheck : (s : List ℕ) (c : Call) (marks : List ℕ) (a : Answer) (after : List ℕ) → Rechecked s c marks a after → Recheck2 s c marks a after

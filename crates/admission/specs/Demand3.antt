@@ -156,15 +156,17 @@ altered s i b [] = b
 altered s i b (change at bytes ∷ es) = altered s i (meets s at (length bytes) i || b) es
 altered s i b (call m ∷ es) = altered s i (cond (examines s (m .call) i) false b) es
 
--- where no page was altered after it was last examined, marks and the latest answer are those of a whole check of the image as it is now
+-- where no page was altered after it was last examined, the book's image is the image as it is now, and marks and the latest answer are those
+-- of a whole check of it
 abbrev pub Images : Type 0
 Images = (x : Lent) (marks : List ℕ) (v : Verdict) (after : List ℕ) (events : List Event)
     → Checked x marks v after → (v .number ≡ 0) ⊎ (v .number ≡ 31) → InTurn (x .signature) after (madeIn events)
     → Faithful (x .signature) (x .image) events
     → ((i : ℕ) → i < pageCount (pageBytesOf (x .signature)) (limitOf (x .signature)) → altered (x .signature) i false events ≡ false)
-    → (lastMarks after (madeIn events) ≡ checkMarks (withImage x (imageAfter (x .image) events)) marks)
+    → (bookAfter (x .signature) (opened (x .image)) (calls (madeIn events)) .image ≡ imageAfter (x .image) events)
+    × ((lastMarks after (madeIn events) ≡ checkMarks (withImage x (imageAfter (x .image) events)) marks)
     × (latest (x .signature) (placeless (answerOf v)) (madeIn events)
-    ≡ placeless (checkAnswer (withImage x (imageAfter (x .image) events)) (length marks)))
+    ≡ placeless (checkAnswer (withImage x (imageAfter (x .image) events)) (length marks))))
 
 pub record Demand3 : Type 0 where
   pub chains : Chains

@@ -1,6 +1,8 @@
--- What nothing depends on: image bytes at or past the code limit, padding behind the SuperBlob, gaps between blobs, and the contents of
--- alternate directories and of the CMS blob behind their heads. One statement: all differences at once, and every answer.
+-- What nothing depends on: image bytes at or past the code limit, padding behind the SuperBlob, gaps between blobs, the contents of alternate
+-- directories and of the CMS blob behind their heads, and the bytes of side files that are not there. One statement: all differences at once,
+-- and every answer.
 use Prim.Native.Nat.{ℕ, _+_, _<_, _≤_}
+use mathlib.Core.Bool.{true}
 use mathlib.Core.List.{List, [], _∷_, _++_}
 use mathlib.Core.Logic.{_⊎_}
 use mathlib.Core.Path.{_≡_}
@@ -41,7 +43,10 @@ pub record Alike (x y : Lent) : Type 0 where
   pub image-long : length (x .image) ≡ length (y .image)
   pub image-bytes : (j : ℕ) → j < limitOf (x .signature) → getD (x .image) j 0 ≡ getD (y .image) j 0
   pub caches : x .cache ≡ y .cache
-  pub side-files : x .sides ≡ y .sides
+  pub info-flag : x .sides .infoThere ≡ y .sides .infoThere
+  pub info-bytes : x .sides .infoThere ≡ true → x .sides .info ≡ y .sides .info
+  pub resources-flag : x .sides .resourcesThere ≡ y .sides .resourcesThere
+  pub resources-bytes : x .sides .resourcesThere ≡ true → x .sides .resources ≡ y .sides .resources
   pub launches : x .facts ≡ y .facts
 
 -- give the same answer and leave the same marks

@@ -1,8 +1,8 @@
 -- Document 01, "Measured on both sides": the starred examples, one table under one statement, computed from the definitions that the rows
--- cite. The first twelve lines are those of head sizes and page counts (`Rattle.directory.specs.Measured`).
+-- cite.
 use Prim.Native.Nat.{ℕ}
-use mathlib.Core.List.{List, [], _∷_, _++_}
-use mathlib.Core.Path.{refl}
+use mathlib.Core.List.{List, [], _∷_}
+use mathlib.Core.Path.{_≡_, refl}
 use Rattle.endian.specs.Numbers.{big}
 use Rattle.refusals.specs.Refusals.{pick, holds, lowest, accepted, first}
 use Rattle.refusals.specs.Ranges.{lookup}
@@ -10,7 +10,16 @@ use Rattle.layout.specs.CodeDirectory.{version, hashOffset, identOffset, nSpeci
 use Rattle.pages.specs.Pages.{pageBytes, pageCount, metFirst, metEnd, wanted, rangeRows}
 use Rattle.directory.specs.Pages.{P, pages}
 use Rattle.directory.specs.Rows.{headSizes, headSize, headOf, specialOutside, codeOutside, zeroAt, identLength, fieldRows, slotRows, blobRows}
-use Rattle.directory.specs.Measured.{Example, _gives_, Hold, hold-append, measured, measured-holds}
+
+-- a number that is computed, and the one that is stated
+infix 90 _gives_
+pub data Example : Type 0 where
+  _gives_ : ℕ → ℕ → Example
+
+-- all of a table hold
+abbrev pub Hold : List Example → Type 0
+Hold [] = Unit
+Hold (x gives y ∷ es) = (x ≡ y) × Hold es
 
 -- the head of a directory of version 0x20601
 abbrev pub newer : List ℕ
@@ -24,9 +33,21 @@ wantedOf start size = wanted (pageBytes 12 8193) 8193 start size
 abbrev pub rangeNumber : ℕ → ℕ → ℕ → ℕ
 rangeNumber start size n = first (rangeRows (pageBytes 12 8193) 8193 start size n) accepted .number
 
-abbrev pub more : List Example
-more =
-    first (blobRows newer) accepted .number gives 11
+abbrev pub measured : List Example
+measured =
+    headSize 0x200FF gives 44
+    ∷ headSize 0x20100 gives 48
+    ∷ headSize 0x20600 gives 108
+    ∷ headSize 0x20601 gives 0
+    ∷ pageCount 4096 0 gives 0
+    ∷ pageCount 4096 1 gives 1
+    ∷ pageCount 4096 4096 gives 1
+    ∷ pageCount 4096 4097 gives 2
+    ∷ pageCount 4096 8192 gives 2
+    ∷ pageCount 4096 8193 gives 3
+    ∷ pageCount (pageBytes 0 0) 0 gives 0
+    ∷ pageCount (pageBytes 0 8193) 8193 gives 1
+    ∷ first (blobRows newer) accepted .number gives 11
     ∷ wantedOf 4095 2 gives 8192
     ∷ rangeNumber 4095 2 8192 gives 0
     ∷ wantedOf 8192 1 gives 1
@@ -37,11 +58,9 @@ more =
     ∷ []
 
 abbrev pub Measured : Type 0
-Measured = Hold (measured ++ more)
-
-more-holds : Hold more
-unfolding big pick holds lowest first lookup version hashOffset identOffset nSpecialSlots nCodeSlots codeLimit hashSize hashType pageSize codeLimit64 pageBytes pageCount metFirst metEnd rangeRows P pages headSizes headSize headOf specialOutside codeOutside zeroAt identLength fieldRows slotRows blobRows
-more-holds = (refl, (refl, (refl, (refl, (refl, (refl, (refl, (refl, tt))))))))
+Measured = Hold measured
 
 pub measured-table : Measured
-measured-table = hold-append measured more measured-holds more-holds
+unfolding big pick holds lowest first lookup version hashOffset identOffset nSpecialSlots nCodeSlots codeLimit hashSize hashType pageSize codeLimit64 pageBytes pageCount metFirst metEnd rangeRows P pages headSizes headSize headOf specialOutside codeOutside zeroAt identLength fieldRows slotRows blobRows
+measured-table =
+    (refl, (refl, (refl, (refl, (refl, (refl, (refl, (refl, (refl, (refl, (refl, (refl, (refl, (refl, (refl, (refl, (refl, (refl, (refl, (refl, tt))))))))))))))))))))

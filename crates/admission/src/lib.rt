@@ -26,9 +26,6 @@ pub struct Verdict {
     pub place: usize,
 }
 
-// The slot type of the directory.
-const DIRECTORY: u32 = 0;
-
 // The whole check: tests 1 to 31. A refusal below 31 leaves every mark.
 pub fn check(
     signature: &[u8],
@@ -153,7 +150,7 @@ fn longest_side(info_there: bool, info: &[u8], resources_there: bool, resources:
 fn sizes_tested(signature: &[u8], image: usize, marks: usize) -> Answer
     ensures { λ r. ⌜ r ≡ first (imageRows (now (signature .entry)) image ++ countRows (now (signature .entry)) marks) accepted ⌝ }
 {
-    let head = CodeDirectory::read(superblob::find(signature, DIRECTORY));
+    let head = CodeDirectory::read(superblob::find(signature, CodeDirectory::TYPE));
     if image < head.code_limit {
         return Answer {
             number: 19,
@@ -167,7 +164,7 @@ fn sizes_tested(signature: &[u8], image: usize, marks: usize) -> Answer
 fn count_tested(signature: &[u8], marks: usize) -> Answer
     ensures { λ r. ⌜ r ≡ first (countRows (now (signature .entry)) marks) accepted ⌝ }
 {
-    let head = CodeDirectory::read(superblob::find(signature, DIRECTORY));
+    let head = CodeDirectory::read(superblob::find(signature, CodeDirectory::TYPE));
     if marks != head.code_slots {
         return Answer {
             number: 20,
@@ -184,7 +181,7 @@ fn count_tested(signature: &[u8], marks: usize) -> Answer
 fn input_tested(signature: &[u8], start: u64, length: u64, lent: usize) -> Answer
     ensures { λ r. ⌜ r ≡ first (rangeRows (pageBytesOf (now (signature .entry))) (limitOf (now (signature .entry))) start length lent) accepted ⌝ }
 {
-    let head = directory::read(superblob::find(signature, DIRECTORY));
+    let head = directory::read(superblob::find(signature, CodeDirectory::TYPE));
     pages::range_tested(head.page_size, head.code_limit, start, length, lent)
 }
 
@@ -192,7 +189,7 @@ fn input_tested(signature: &[u8], start: u64, length: u64, lent: usize) -> Answe
 fn directory_hash(signature: &[u8]) -> [u8; 20]
     ensures { λ r. ⌜ big 20 r 0 ≡ cdhash (now (signature .entry)) ⌝ }
 {
-    digest::cut(digest::digest(superblob::find(signature, DIRECTORY)))
+    digest::cut(digest::digest(superblob::find(signature, CodeDirectory::TYPE)))
 }
 
 // Hashes every page of the image and writes its mark.
@@ -200,7 +197,7 @@ fn write_marks(signature: &[u8], image: &[u8], marks: &mut [u8])
     requires { ⌜ ImageHere (now signature) (now image) (now marks) ⌝ }
     ensures { λ r. ⌜ now (marks .exit) ≡ marksOf (now (signature .entry)) (now (image .entry)) ⌝ }
 {
-    let d = superblob::find(signature, DIRECTORY);
+    let d = superblob::find(signature, CodeDirectory::TYPE);
     let head = directory::read(d);
     pages::mark_pages(
         head.page_size,
@@ -217,7 +214,7 @@ fn rewrite_marks(signature: &[u8], start: u64, length: u64, bytes: &[u8], marks:
     requires { ⌜ RangeHere (pageBytesOf (now signature)) (limitOf (now signature)) (slotsOf (now signature)) start length (now bytes) (now marks) ⌝ }
     ensures { λ r. ⌜ now (marks .exit) ≡ remarked (now (signature .entry)) (recheck start length (now (bytes .entry))) (now (marks .entry)) ⌝ }
 {
-    let d = superblob::find(signature, DIRECTORY);
+    let d = superblob::find(signature, CodeDirectory::TYPE);
     let head = directory::read(d);
     let p = head.page_size;
     let first = pages::first_met(p, start as usize, length as usize);

@@ -1,6 +1,7 @@
 // Document 01's small program: reads a signature, an image and a trust cache from the files that its arguments name, and prints the number
 // and the place of a whole check. `admit` decides; reading and printing stand around it.
 use admission::Verdict;
+use layout::directory::CodeDirectory;
 use trustcache::Launch;
 ghost use mathlib.Core.Path.{_≡_};
 ghost use Prim.Native.Nat.{_≤_};
@@ -8,11 +9,8 @@ ghost use lib.ListN.{length};
 ghost use Rattle.io.specs.Counts.{Counts};
 ghost use Rattle.admit_run.specs.Small.{marksWanted, smallVerdict};
 
-// The slot type of the directory.
-const DIRECTORY: u32 = 0;
-
 // The whole check of three files. There is room for the marks of every directory that passes.
-pub fn admit(signature: &[u8], image: &[u8], cache: &[u8], marks: &mut [u8]) -> Verdict
+fn admit(signature: &[u8], image: &[u8], cache: &[u8], marks: &mut [u8]) -> Verdict
     requires { ⌜ 65536 ≤ length (now marks) ⌝ }
     ensures { λ r. ⌜ r ≡ smallVerdict (now (signature .entry)) (now (image .entry)) (now (cache .entry)) ⌝ }
 {
@@ -44,7 +42,7 @@ fn marks_wanted(signature: &[u8]) -> usize
     if directory::tested(signature, 0).number != 0 {
         return 0;
     }
-    directory::read(superblob::find(signature, DIRECTORY)).code_slots
+    directory::read(superblob::find(signature, CodeDirectory::TYPE)).code_slots
 }
 
 // A file's bytes in a buffer: how many they are, and whether it could be opened.

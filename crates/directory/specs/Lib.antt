@@ -3,4 +3,3 @@ pub mod Rows
 pub mod Slots
 pub mod Formed
 pub mod Exact
-pub mod Measured

@@ -55,7 +55,7 @@ unfoldable pub specialOutside : List ℕ → Cond
 specialOutside d =
     0 <? nSpecialSlots d and (hashOffset d <? headOf d + slotWidth * nSpecialSlots d or length d <? hashOffset d)
 
--- .. and the code slots from there up to hashOffset + 32 * nCodeSlots
+-- .. and the code slots from hashOffset up to hashOffset + 32 * nCodeSlots
 unfoldable pub codeOutside : List ℕ → Cond
 codeOutside d =
     0 <? nCodeSlots d and (hashOffset d <? headOf d or length d <? hashOffset d + slotWidth * nCodeSlots d)

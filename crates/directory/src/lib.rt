@@ -14,19 +14,8 @@ use layout::directory::CodeDirectory;
 use refusals::Answer;
 use refusals::answers::answer;
 
-// The slot type of the directory.
-const DIRECTORY: u32 = 0;
-
-// CS_HASHTYPE_SHA256
-const SHA256: usize = 2;
-
 // The last version that has no codeLimit64.
 const LAST_WITHOUT_LIMIT64: usize = 0x202FF;
-
-// The page sizes: 2 to the 12 and 2 to the 14.
-const PAGE_12: usize = 4096;
-
-const PAGE_14: usize = 16384;
 
 const MOST_CODE_SLOTS: usize = 65536;
 
@@ -40,7 +29,7 @@ pub fn tested(sig: &[u8], side: usize) -> Answer
     if blobs.number != 0 {
         return blobs;
     }
-    let d = superblob::find(sig, DIRECTORY);
+    let d = superblob::find(sig, CodeDirectory::TYPE);
     if d.len() == 0 {
         return answer(10, 0);
     }
@@ -148,7 +137,7 @@ fn fields_tested(d: &[u8]) -> Answer
         return answer(12, 0);
     }
     let head = CodeDirectory::read(d);
-    if head.hash_type != SHA256 {
+    if head.hash_type != CodeDirectory::SHA256 {
         return answer(13, 0);
     }
     if head.hash_size != CodeDirectory::SLOT {
@@ -241,13 +230,13 @@ fn head_size(version: usize) -> usize
     ensures { λ r. ⌜ (r ≡ headSize version) × (r < 109) ⌝ }
 {
     match version {
-        0x20001..=0x200FF => 44,
-        0x20100..=0x201FF => 48,
-        0x20200..=0x202FF => 52,
-        0x20300..=0x203FF => 64,
-        0x20400..=0x204FF => 88,
-        0x20500..=0x205FF => 96,
-        0x20600 => 108,
+        0x20001..=0x200FF => CodeDirectory::HEAD_EARLIEST,
+        0x20100..=0x201FF => CodeDirectory::HEAD_SCATTER,
+        0x20200..=0x202FF => CodeDirectory::HEAD_TEAM,
+        0x20300..=0x203FF => CodeDirectory::HEAD_CODE_LIMIT64,
+        0x20400..=0x204FF => CodeDirectory::HEAD_EXEC_SEGMENT,
+        0x20500..=0x205FF => CodeDirectory::HEAD_PRE_ENCRYPT,
+        0x20600 => CodeDirectory::HEAD_LINKAGE,
         _ => 0,
     }
 }

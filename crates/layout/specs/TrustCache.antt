@@ -13,10 +13,6 @@ cacheVersion c = little 4 c 0
 unfoldable pub entryCount : List ℕ → ℕ
 entryCount c = little 4 c 20
 
--- where entry i starts
-unfoldable pub entryStart : ℕ → ℕ
-entryStart i = 24 + 24 * i
-
 -- entry i: its hash, and the bytes behind it
 unfoldable pub hashAt : List ℕ → ℕ → List ℕ
 hashAt c i = take 20 (drop (24 + 24 * i) c)

@@ -1,7 +1,6 @@
 // The CodeDirectory, a blob of the signature, big-endian: a head whose size follows from the version, the identifier,
 // and the slots, each the hash of one thing: the special slots end at hashOffset, and the code slots start there.
 ghost use Rattle.layout.specs.CodeDirectory.{DirectoryRead};
-use crate::superblob::Blob;
 
 // The fields of the head that document 01 lists, in their order. Offsets count from the directory's start.
 pub struct CodeDirectory {
@@ -22,7 +21,30 @@ pub struct CodeDirectory {
 }
 
 impl CodeDirectory {
-    pub const MAGIC: usize = Blob::CODEDIRECTORY;
+    // CSMAGIC_CODEDIRECTORY
+    pub const MAGIC: usize = 0xFADE0C02;
+
+    // The slot type of the directory that is checked (CSSLOT_CODEDIRECTORY).
+    pub const TYPE: u32 = 0;
+
+    // The hash type that is taken (CS_HASHTYPE_SHA256).
+    pub const SHA256: usize = 2;
+
+    // Bytes of the head, which grew with the version: the earliest, with scatter, with team, with codeLimit64, with the executable
+    // segment, with the pre-encryption offset, with linkage (Apple's end_ marks).
+    pub const HEAD_EARLIEST: usize = 44;
+
+    pub const HEAD_SCATTER: usize = 48;
+
+    pub const HEAD_TEAM: usize = 52;
+
+    pub const HEAD_CODE_LIMIT64: usize = 64;
+
+    pub const HEAD_EXEC_SEGMENT: usize = 88;
+
+    pub const HEAD_PRE_ENCRYPT: usize = 96;
+
+    pub const HEAD_LINKAGE: usize = 108;
 
     // Bytes of a slot: a SHA-256 hash.
     pub const SLOT: usize = 32;

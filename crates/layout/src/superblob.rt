@@ -61,10 +61,8 @@ pub struct Blob {
 impl Blob {
     pub const HEAD: usize = 8;
 
-    // The magics, by Apple's names without CSMAGIC and EMBEDDED.
+    // The magics of the blobs beside the directory, by Apple's names without CSMAGIC and EMBEDDED.
     pub const REQUIREMENTS: usize = 0xFADE0C01;
-
-    pub const CODEDIRECTORY: usize = 0xFADE0C02;
 
     pub const ENTITLEMENTS: usize = 0xFADE7171;
 

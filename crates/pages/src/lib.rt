@@ -11,7 +11,6 @@ pub use geometry::first_met;
 pub use geometry::page_bytes;
 pub use geometry::page_count;
 pub use geometry::range_tested;
-pub use geometry::wanted_bytes;
 pub use marks::judge;
 pub use marks::mark_pages;
 pub use marks::marks_tested;

@@ -1,7 +1,7 @@
 -- The table of refusals. A check is a list of numbered tests in order: the first that fails gives its number and its place, and
 -- where none fails the check's own answer stands. Order is the order of the list, and nothing else.
 --
--- A row is a number, a condition that refuses, and a place. A condition compares numbers. There are three kinds of rows:
+-- A row is a number, a condition that refuses, and a place. A condition compares numbers. Rows are written in three ways:
 --   row n c p       a test with a place that is known, 0 where the paper states none;
 --   over n b f      a test over the positions below b, which names the lowest at which f holds;
 --   among b f ns    a test over the positions below b that gives several numbers: the lowest position with a fault decides, whichever
@@ -70,7 +70,7 @@ pub data Row : Type 0 where
 abbrev pub over : ℕ → ℕ → (ℕ → Cond) → Row
 over n b f = row n (lowest f b <? b) (lowest f b)
 
--- the lowest position below b with a fault: `fault` gives the number of what is wrong at a position, 0 where nothing is
+-- position i has a fault: `fault` gives the number of what is wrong at a position, 0 where nothing is
 abbrev pub faulty : (ℕ → ℕ) → ℕ → Cond
 faulty fault i = fault i ≢? 0
 

@@ -14,9 +14,7 @@ use layout::directory::CodeDirectory;
 use refusals::Answer;
 use refusals::answers::answer;
 
-// The slot types of the directory and of the last special slot.
-const DIRECTORY: u32 = 0;
-
+// The last special slot.
 const LAST: u32 = 11;
 
 // Tests 21 to 23, over k from 1 to 11. A side file whose flag is off is not read.
@@ -70,7 +68,7 @@ fn fault_at(
 ) -> u32
     ensures { λ r. ⌜ r ≡ fault (now (sig .entry)) (sides «info_there» (now (info .entry)) «resources_there» (now (resources .entry))) k ⌝ }
 {
-    let d = superblob::find(sig, DIRECTORY);
+    let d = superblob::find(sig, CodeDirectory::TYPE);
     let slot = k as usize;
     match k {
         0 => 0,

@@ -2,17 +2,17 @@
 use Prim.Native.Nat.{ℕ, _+_, _<_, _≤_}
 use mathlib.Core.Bool.{Bool, true, false}
 use mathlib.Core.List.{List}
-use mathlib.Core.Logic.{_⊎_, inl, inr}
+use mathlib.Core.Logic.{_⊎_, inl, inr, ⊎-elim}
 use mathlib.Core.Path.{_≡_, refl, sym, ap}
 use lib.Dec.{ltb}
 use lib.ListN.{length}
 use borrow.Author.Tests.{ltb-true, ltb-false}
 use native.Mathlib.Omega.{arith}
 use Rattle.refusals.specs.declared.Answer.{Answer}
-use Rattle.refusals.specs.Refusals.{first, accepted}
+use Rattle.refusals.specs.Refusals.{first, accepted, Passes}
 use Rattle.refusals.specs.Conditions.{said}
 use Rattle.refusals.specs.Exact.{passes, passed}
-use Rattle.refusals.specs.Positions.{lowest-below}
+use Rattle.refusals.specs.Positions.{lowest-below, none-fails}
 use Rattle.layout.specs.SuperBlob.{magic, superLength, count, indexEnd, typeAt, offsetAt, blobMagic, blobLength}
 use Rattle.superblob.specs.Rows.{magicOf, unknown, sameType, repeated, outside, wrongMagic, shared, overlaps, headRows, indexRows, rows, rows-unused}
 
@@ -88,3 +88,22 @@ unfolding rows headRows indexRows
 side-passes side s e =
     let p = passed (rows side s) accepted 0 (rows-unused side s) e in
     sym (ap (λ (a : Answer). a .number) (passes (rows 0 s) accepted (omega arith)))
+
+apart-passes : (a la b lb : ℕ) → (b + lb ≤ a) ⊎ (a + la ≤ b) → a < b + lb → a + la ≤ b
+apart-passes a la b lb h l = ⊎-elim (λ u. absurd (omega arith)) (λ u. u) h
+
+-- and the other way: tests 1 to 9 pass where the SuperBlob is such and no side file is too long
+pub formed-passes : (side : ℕ) (s : List ℕ) → Formed s → side ≤ 4194304 → Passes (rows side s)
+unfolding rows headRows indexRows unknown sameType repeated outside wrongMagic shared overlaps
+formed-passes side s f l =
+    let known = none-fails (unknown s) (count s) (λ i h. f .inside i h .known) in
+    let once =
+    none-fails (repeated s) (count s)
+    (λ i h. let q = none-fails (sameType s i) i (λ j u. f .distinct j i u h) in omega arith) in
+    let inside = none-fails (outside s) (count s) (λ i h. let o = f .inside i h in (omega arith)) in
+    let magic = none-fails (wrongMagic s) (count s) (λ i h. f .inside i h .right-magic) in
+    let apart =
+    none-fails (overlaps s) (count s)
+    (λ i h. let q = none-fails (shared s i) i (λ j u. apart-passes (offsetAt s i) (blobLength s i) (offsetAt s j) (blobLength s j) (f .apart j i u h)) in
+    omega arith) in
+    omega arith

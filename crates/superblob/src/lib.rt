@@ -9,6 +9,7 @@ ghost use Prim.Native.Nat.{_<_};
 ghost use Rattle.refusals.specs.Refusals.{holds, lowest, first, accepted, refuse};
 ghost use Rattle.layout.specs.SuperBlob.{indexEnd, typeAt, offsetAt, blobMagic, blobLength, count};
 ghost use Rattle.superblob.specs.Rows.{magicOf, outside, shared, clashing, failing, headRows, indexRows, rows, position, Found, blob};
+use layout::directory::CodeDirectory;
 use layout::superblob::Blob;
 use layout::superblob::BlobIndex;
 use layout::superblob::SuperBlob;
@@ -248,7 +249,7 @@ fn magic_of(kind: usize) -> usize
     ensures { λ r. ⌜ r ≡ magicOf kind ⌝ }
 {
     match kind {
-        0 | 0x1000..=0x1004 => Blob::CODEDIRECTORY,
+        0 | 0x1000..=0x1004 => CodeDirectory::MAGIC,
         2 => Blob::REQUIREMENTS,
         5 => Blob::ENTITLEMENTS,
         7 => Blob::DER_ENTITLEMENTS,

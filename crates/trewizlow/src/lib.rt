@@ -10,9 +10,6 @@ ghost use Rattle.admission.specs.Check.{Checked};
 ghost use Rattle.admission.specs.Recheck.{recheck, Rechecked};
 ghost use Rattle.trewizlow.specs.Interface.{BlobFound, DirectoryShown, empty, FieldsShown, HashShown};
 
-// The slot type of the directory.
-const DIRECTORY: u32 = 0;
-
 // The whole check.
 #[no_mangle]
 pub extern "C" fn trewizlow_check(
@@ -140,8 +137,8 @@ fn no_fields(answer: Answer) -> DirectoryFields
 fn fields(signature: &[u8]) -> DirectoryFields
     ensures { λ r. ⌜ FieldsShown (now (signature .entry)) r ⌝ }
 {
-    let start = superblob::find_span(signature, DIRECTORY).start;
-    let d = superblob::find(signature, DIRECTORY);
+    let start = superblob::find_span(signature, CodeDirectory::TYPE).start;
+    let d = superblob::find(signature, CodeDirectory::TYPE);
     let read = directory::read(d);
     let page_size = read.page_size;
     let ident_length = read.ident_length;
@@ -198,7 +195,7 @@ pub extern "C" fn trewizlow_cdhash(signature: &[u8]) -> DirectoryHash
             hash: [0; 20],
         };
     }
-    let hash = digest::cut(digest::digest(superblob::find(signature, DIRECTORY)));
+    let hash = digest::cut(digest::digest(superblob::find(signature, CodeDirectory::TYPE)));
     DirectoryHash {
         number: 0,
         place: 0,

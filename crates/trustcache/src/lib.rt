@@ -7,14 +7,12 @@ mod entries;
 mod launch;
 mod search;
 
-pub use entries::form_tested;
+use entries::form_tested;
 pub use launch::Launch;
-pub use launch::launch_tested;
+use launch::launch_tested;
 use layout::cache::CacheEntry;
 use refusals::Answer;
-pub use search::Found;
-pub use search::find_entry;
-pub use search::lookup_tested;
+use search::lookup_tested;
 ghost use mathlib.Core.Path.{_≡_};
 ghost use Rattle.endian.specs.Numbers.{big};
 ghost use Rattle.refusals.specs.Refusals.{refuse, first};

@@ -5,15 +5,13 @@ use super::entries::compare;
 use layout::cache::CacheEntry;
 use layout::cache::CacheHead;
 use layout::cache::hash_of;
+use layout::directory::CodeDirectory;
 use refusals::Answer;
 ghost use mathlib.Core.Path.{_≡_};
 ghost use Rattle.endian.specs.Numbers.{big};
 ghost use Rattle.refusals.specs.Refusals.{Passes, refuse, first};
 ghost use Rattle.trustcache.specs.Rows.{formRows, entryOf, lookupRows};
 ghost use Rattle.trustcache.specs.Found.{Looked};
-
-// The hash type that an entry must have: SHA-256.
-const SHA256: usize = 2;
 
 // The highest constraint category.
 const HIGHEST_CATEGORY: usize = 1;
@@ -67,7 +65,7 @@ pub fn lookup_tested(c: &[u8], hash: [u8; 20]) -> Answer
         };
     }
     let entry = CacheEntry::read(c, found.entry);
-    if entry.hash_type != SHA256 {
+    if entry.hash_type != CodeDirectory::SHA256 {
         return Answer {
             number: 27,
             place: found.entry,

@@ -1,11 +1,4 @@
-//! The arguments of bench-digest.
-
-pub const HELP: &str = "\
-usage: bench-digest [--mib N] [--reps N]
-Hashes N MiB (default 200) in pages of 4,096 and of 16,384 bytes with the proved SHA-256
-and with a straightforward Rust one, N times each (default 5), compares every digest and
-prints both times and their ratio. Exit status 1 where two digests differ.
-";
+//! The arguments of the benchmarks: `--mib N` and `--reps N`.
 
 pub struct Arguments {
     pub mib: usize,
@@ -20,9 +13,12 @@ fn number(name: &str, value: Option<String>) -> Result<usize, String> {
     }
 }
 
-/// The arguments; none where help is asked for.
-pub fn read(mut list: impl Iterator<Item = String>) -> Result<Option<Arguments>, String> {
-    let mut arguments = Arguments { mib: 200, reps: 5 };
+/// The arguments, or what `default` has; none where help is asked for.
+pub fn read(
+    mut list: impl Iterator<Item = String>,
+    default: Arguments,
+) -> Result<Option<Arguments>, String> {
+    let mut arguments = default;
     while let Some(name) = list.next() {
         match name.as_str() {
             "--mib" => arguments.mib = number(&name, list.next())?,

@@ -1,15 +1,21 @@
 //! bench-digest: the proved SHA-256 and a straightforward one, over the pages of one
 //! buffer, in one run. Every digest of every pass is compared.
 
-mod arguments;
-mod plain;
 mod proved;
-mod timing;
 
 use std::process::ExitCode;
 
-use arguments::{Arguments, HELP};
-use timing::{seconds, Times};
+use bench::arguments::{self, Arguments};
+use bench::buffer::filled;
+use bench::plain;
+use bench::timing::{seconds, Times};
+
+const HELP: &str = "\
+usage: bench-digest [--mib N] [--reps N]
+Hashes N MiB (default 200) in pages of 4,096 and of 16,384 bytes with the proved SHA-256
+and with a straightforward Rust one, N times each (default 5), compares every digest and
+prints both times and their ratio. Exit status 1 where two digests differ.
+";
 
 type Digest = fn(&[u8], &mut [u8; 32]);
 
@@ -70,20 +76,6 @@ fn report(bytes: usize, page_size: usize, reps: usize, [proved, plain]: &[Times;
     println!("  all {} digests agree in each of {reps} repetitions", bytes / page_size);
 }
 
-/// Bytes that look random (xorshift64*, a fixed seed), so that every page is written to
-/// and no page is like another.
-fn filled(length: usize) -> Vec<u8> {
-    let mut state = 0x6265_6E63_6800_0001u64;
-    let mut buffer = vec![0u8; length];
-    for word in buffer.chunks_exact_mut(8) {
-        state ^= state >> 12;
-        state ^= state << 25;
-        state ^= state >> 27;
-        word.copy_from_slice(&state.wrapping_mul(0x2545_F491_4F6C_DD1D).to_le_bytes());
-    }
-    buffer
-}
-
 fn run(arguments: &Arguments) -> Result<(), String> {
     let buffer = filled(arguments.mib * PIECE);
     println!("SHA-256 of {} MiB, {} repetitions", arguments.mib, arguments.reps);
@@ -100,7 +92,8 @@ fn run(arguments: &Arguments) -> Result<(), String> {
 }
 
 fn main() -> ExitCode {
-    let arguments = match arguments::read(std::env::args().skip(1)) {
+    let arguments = match arguments::read(std::env::args().skip(1), Arguments { mib: 200, reps: 5 })
+    {
         Ok(Some(arguments)) => arguments,
         Ok(None) => {
             print!("{HELP}");

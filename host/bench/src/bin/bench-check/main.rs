@@ -1,0 +1,125 @@
+//! bench-check: whole checks and rechecks by the proved library and by a straightforward
+//! Rust checker, in one run. Every answer and every mark is compared.
+
+mod measure;
+mod scene;
+
+use std::process::ExitCode;
+
+use bench::arguments::{self, Arguments};
+use bench::buffer::filled;
+use bench::checker;
+use measure::{measure, Call, Measured};
+use scene::Scene;
+use trewizlow::Lent;
+
+const HELP: &str = "\
+usage: bench-check [--mib N] [--reps N]
+Checks an image of N MiB (default 200, at most 256) with the proved library and with a
+straightforward Rust checker, N samples each (default 9): whole checks for each page size,
+rechecks of 1 page, 16 pages and all pages, the lookup among 65,536 cache entries, and the
+sample's three pages. Compares answers and marks and prints both times and their ratio. Exit
+status 1 where they differ.
+";
+
+/// 65,536 pages of 4 KiB.
+const MOST_MIB: usize = 256;
+/// Samples of calls that take microseconds; they cost little.
+const SHORT_REPS: usize = 200;
+
+fn print(what: &str, times: &Measured) {
+    let (library, plain) = (&times.library, &times.plain);
+    println!(
+        "{what:34}  {:12.1}  {:12.1}  {:6.3}  {:12.1}  {:12.1}  {:6.3}",
+        library.minima() * 1e6,
+        plain.minima() * 1e6,
+        library.minima() / plain.minima(),
+        library.medians() * 1e6,
+        plain.medians() * 1e6,
+        library.medians() / plain.medians()
+    );
+}
+
+/// A whole check by both.
+fn whole(what: &str, scene: &Scene, image: &[u8], reps: usize) -> Result<(), String> {
+    let lent = Lent::new(&scene.signature, image, &scene.cache);
+    let library: Call = &|marks| {
+        let verdict = trewizlow::check(&lent, marks);
+        (verdict.number, verdict.place)
+    };
+    let plain: Call = &|marks| {
+        let verdict = checker::check(&lent, marks);
+        (verdict.number, verdict.place)
+    };
+    print(what, &measure([library, plain], scene.pages, reps, 0)?);
+    Ok(())
+}
+
+/// A recheck of so many pages from the image's middle on, or of all, by both.
+fn recheck(scene: &Scene, image: &[u8], pages: usize, reps: usize) -> Result<(), String> {
+    let first = if pages == scene.pages { 0 } else { scene.pages / 2 };
+    let start = first * scene.page_size;
+    let bytes = &image[start..image.len().min(start + pages * scene.page_size)];
+    let (start, length) = (start as u64, bytes.len() as u64);
+    let library: Call = &|marks| {
+        let answer = trewizlow::recheck(&scene.signature, start, length, bytes, marks);
+        (answer.number, answer.place)
+    };
+    let plain: Call = &|marks| {
+        let answer = checker::recheck(&scene.signature, start, length, bytes, marks);
+        (answer.number, answer.place)
+    };
+    let what = format!("recheck of {pages} of {} pages", scene.pages);
+    print(&what, &measure([library, plain], scene.pages, reps, 0)?);
+    Ok(())
+}
+
+fn run(arguments: &Arguments) -> Result<(), String> {
+    let image = filled(arguments.mib << 20);
+    let reps = arguments.reps;
+    println!("image of {} MiB; microseconds of thread time a call", arguments.mib);
+    println!("samples: {reps} each for calls over all pages, {SHORT_REPS} each for the others,");
+    println!("the two programs taking turns; short calls are repeated in a sample");
+    println!("image: not cleared, filled with pseudo-random bytes before the first call");
+    println!("marks: cleared to 0 before each sample, outside the timed part\n");
+    println!("{:34}  {:^34}  {:^34}", "", "minimum", "median");
+    let columns = format!("{:>12}  {:>12}  {:>6}", "library", "Rust", "ratio");
+    println!("{:34}  {columns}  {columns}", "");
+    for (shift, name) in
+        [(12, "pages of 4,096 bytes"), (14, "pages of 16,384 bytes"), (0, "one page")]
+    {
+        let scene = Scene::new(&image, shift);
+        whole(&format!("whole check, {name}"), &scene, &image, reps)?;
+        for pages in [1, 16].into_iter().filter(|&pages| pages < scene.pages) {
+            recheck(&scene, &image, pages, SHORT_REPS)?;
+        }
+        recheck(&scene, &image, scene.pages, reps)?;
+    }
+    whole("lookup among 65,536 cache entries", &Scene::new(&[], 12), &[], SHORT_REPS)?;
+    let (scene, image) = Scene::sample();
+    whole("whole check of the sample", &scene, &image, SHORT_REPS)?;
+    recheck(&scene, &image, 1, SHORT_REPS)
+}
+
+fn main() -> ExitCode {
+    let read = arguments::read(std::env::args().skip(1), Arguments { mib: 200, reps: 9 });
+    let arguments = match read {
+        Ok(Some(arguments)) if arguments.mib <= MOST_MIB => arguments,
+        Ok(None) => {
+            print!("{HELP}");
+            return ExitCode::SUCCESS;
+        }
+        other => {
+            let message = other.err().unwrap_or(format!("--mib is at most {MOST_MIB}"));
+            eprint!("bench-check: {message}\n{HELP}");
+            return ExitCode::from(2);
+        }
+    };
+    match run(&arguments) {
+        Ok(()) => ExitCode::SUCCESS,
+        Err(message) => {
+            eprintln!("bench-check: {message}");
+            ExitCode::FAILURE
+        }
+    }
+}

@@ -1,0 +1,116 @@
+//! Tests 10 to 18.
+
+use super::superblob::Index;
+use super::{be32, refuse, Tested};
+use crate::plain;
+
+pub const SLOT: usize = 32;
+
+/// A directory that passed, with the fields that later tests read.
+pub struct Directory<'a> {
+    bytes: &'a [u8],
+    hash_offset: usize,
+    pub special_slots: usize,
+    pub code_slots: usize,
+    pub code_limit: usize,
+    pub page_size: usize,
+}
+
+fn head_size(version: u32) -> Option<usize> {
+    match version {
+        0x20001..=0x200FF => Some(44),
+        0x20100..=0x201FF => Some(48),
+        0x20200..=0x202FF => Some(52),
+        0x20300..=0x203FF => Some(64),
+        0x20400..=0x204FF => Some(88),
+        0x20500..=0x205FF => Some(96),
+        0x20600 => Some(108),
+        _ => None,
+    }
+}
+
+/// Tests 10 to 15; the blob and its head's size.
+fn head<'a>(index: &Index<'a>) -> Tested<(&'a [u8], usize)> {
+    let Some(bytes) = index.blob(0) else {
+        return refuse(10);
+    };
+    if bytes.len() < 12 {
+        return refuse(12);
+    }
+    let version = be32(bytes, 8);
+    let Some(head) = head_size(version) else {
+        return refuse(11);
+    };
+    if bytes.len() < head {
+        return refuse(12);
+    }
+    if bytes[37] != 2 || bytes[36] != 32 {
+        return refuse(13);
+    }
+    if !matches!(bytes[39], 0 | 12 | 14) {
+        return refuse(14);
+    }
+    if version >= 0x20300 && bytes[56..64] != [0; 8] {
+        return refuse(15);
+    }
+    Ok((bytes, head))
+}
+
+pub fn read<'a>(index: &Index<'a>) -> Tested<Directory<'a>> {
+    let (bytes, head) = head(index)?;
+    let code_limit = be32(bytes, 32) as usize;
+    let directory = Directory {
+        bytes,
+        hash_offset: be32(bytes, 16) as usize,
+        special_slots: be32(bytes, 24) as usize,
+        code_slots: be32(bytes, 28) as usize,
+        code_limit,
+        page_size: if bytes[39] == 0 { code_limit } else { 1 << bytes[39] },
+    };
+    let pages = if code_limit == 0 { 0 } else { code_limit.div_ceil(directory.page_size) };
+    if directory.code_slots != pages || pages > 65_536 || directory.special_slots > 11 {
+        return refuse(16);
+    }
+    if directory.slot_outside(head) {
+        return refuse(17);
+    }
+    let ident_offset = be32(bytes, 20) as usize;
+    let ends = bytes.get(ident_offset..).is_some_and(|rest| rest.contains(&0));
+    if ident_offset < head || !ends {
+        return refuse(18);
+    }
+    Ok(directory)
+}
+
+impl<'a> Directory<'a> {
+    /// Test 17. Without slots nothing reaches anywhere.
+    fn slot_outside(&self, head: usize) -> bool {
+        if self.special_slots + self.code_slots == 0 {
+            return false;
+        }
+        self.hash_offset < head + SLOT * self.special_slots
+            || self.hash_offset + SLOT * self.code_slots > self.bytes.len()
+    }
+
+    pub fn code_slots_from(&self, first: usize) -> impl Iterator<Item = &'a [u8]> {
+        let start = self.hash_offset + SLOT * first;
+        let end = self.hash_offset + SLOT * self.code_slots;
+        self.bytes[start..end].chunks_exact(SLOT)
+    }
+
+    /// Special slot k, from 1; none where it is empty.
+    pub fn special_slot(&self, k: usize) -> Option<&'a [u8]> {
+        if k > self.special_slots {
+            return None;
+        }
+        let start = self.hash_offset - SLOT * k;
+        let slot = &self.bytes[start..start + SLOT];
+        (slot != [0; SLOT]).then_some(slot)
+    }
+
+    pub fn cdhash(&self) -> [u8; 20] {
+        let mut hash = [0; 32];
+        plain::digest(self.bytes, &mut hash);
+        hash[..20].try_into().unwrap()
+    }
+}

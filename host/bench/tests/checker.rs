@@ -1,0 +1,73 @@
+//! The straightforward checker answers as the reference does, so that what is timed is the
+//! same work.
+
+use bench::checker;
+use reference::cases::checks::{cases, Call, Kind};
+use reference::check::{check, Lent};
+use reference::recheck::{recheck, Range};
+use reference::slots::SideFiles;
+use trewizlow::Launch;
+
+fn reference_says(call: &Call, marks: &mut [u8]) -> (u32, u64) {
+    let files = SideFiles { info: call.info.as_deref(), resources: call.resources.as_deref() };
+    let answer = match call.kind {
+        Kind::WholeCheck => {
+            let (signature, image, cache) = (&call.signature, &call.bytes, &call.cache);
+            check(&Lent { signature, image, cache, files, launch: call.launch }, marks)
+        }
+        _ => {
+            let range = Range { start: call.start, length: call.length, bytes: &call.bytes };
+            recheck(&call.signature, &range, marks)
+        }
+    };
+    (answer.number, answer.place)
+}
+
+fn checker_says(call: &Call, marks: &mut [u8]) -> (u32, u64) {
+    if call.kind != Kind::WholeCheck {
+        let (start, length) = (call.start, call.length);
+        let answer = checker::recheck(&call.signature, start, length, &call.bytes, marks);
+        return (answer.number, answer.place as u64);
+    }
+    let lent = trewizlow::Lent {
+        signature: &call.signature,
+        image: &call.bytes,
+        cache: &call.cache,
+        info_plist: call.info.as_deref(),
+        code_resources: call.resources.as_deref(),
+        launch: Launch {
+            on_authorized_volume: call.launch.on_authorized_volume,
+            on_system_volume: call.launch.on_system_volume,
+            launch_type: call.launch.launch_type,
+            validation_category: call.launch.validation_category,
+            parent_is_init: call.launch.parent_is_init,
+        },
+    };
+    let verdict = checker::check(&lent, marks);
+    (verdict.number, verdict.place as u64)
+}
+
+#[test]
+fn answers_and_marks_agree() {
+    let mut marks = Vec::new();
+    for call in cases() {
+        if call.kind != Kind::RecheckAfter {
+            marks.clone_from(&call.marks);
+        }
+        let mut after = marks.clone();
+        let wanted = reference_says(&call, &mut after);
+        assert_eq!(checker_says(&call, &mut marks), wanted);
+        assert_eq!(marks, after);
+    }
+}
+
+/// The same for signatures, damaged in every way that the corpus of signatures has.
+#[test]
+fn signatures_agree() {
+    for signature in reference::cases::signatures::cases() {
+        let range = Range { start: u64::MAX, length: 1, bytes: &[] };
+        let wanted = recheck(&signature, &range, &mut []);
+        let answer = checker::recheck(&signature, u64::MAX, 1, &[], &mut []);
+        assert_eq!((answer.number, answer.place as u64), (wanted.number, wanted.place));
+    }
+}

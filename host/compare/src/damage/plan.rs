@@ -1,0 +1,179 @@
+//! Damage to the plan: the directory's fields and slots, what slots cover, launch facts.
+
+use reference::inputs::InputsPlan;
+use reference::launch::Launch;
+use reference::make::blob_of;
+use reference::random::Random;
+
+use super::{index, near};
+use crate::plan::{some_bytes, OTHERS};
+
+type Damage = fn(&mut InputsPlan, &mut Random);
+
+const DAMAGES: [Damage; 20] = [
+    version,
+    hash_kind,
+    page_shift,
+    code_limit64,
+    code_count,
+    code_limit,
+    special_count,
+    hash_offset,
+    ident_offset,
+    no_end,
+    special_slot,
+    special_slot,
+    code_slot,
+    info,
+    resources,
+    drop_blob,
+    change_blob,
+    category,
+    launch,
+    launch,
+];
+
+pub fn damage(plan: &mut InputsPlan, random: &mut Random) {
+    random.pick(&DAMAGES)(plan, random);
+}
+
+fn version(plan: &mut InputsPlan, random: &mut Random) {
+    let versions = [0, 1, 0x20000, 0x20601, 0x20700, 0x1FFFF, 0x30001, 0x02000100, 0xFFFFFFFF];
+    plan.directory.version = *random.pick(&versions);
+}
+
+fn hash_kind(plan: &mut InputsPlan, random: &mut Random) {
+    match random.below(2) {
+        0 => plan.directory.hash_size = *random.pick(&[0, 20, 31, 33, 48, 255]),
+        _ => plan.directory.hash_type = *random.pick(&[0, 1, 3, 4, 5, 255]),
+    }
+}
+
+/// One of the known sizes does not refuse here: the counts or the pages then do.
+fn page_shift(plan: &mut InputsPlan, random: &mut Random) {
+    plan.directory.page_shift = *random.pick(&[0, 1, 2, 11, 12, 13, 14, 15, 16, 128, 255]);
+}
+
+fn code_limit64(plan: &mut InputsPlan, random: &mut Random) {
+    plan.directory.code_limit64 = 1 << random.below(64);
+}
+
+fn code_count(plan: &mut InputsPlan, random: &mut Random) {
+    let right = plan.directory.code.len() as u32;
+    plan.directory.code_count = Some(near(right, random));
+}
+
+/// Large limits with their right count: 65,536 pages pass test 16, one more does not.
+fn code_limit(plan: &mut InputsPlan, random: &mut Random) {
+    let directory = &mut plan.directory;
+    let pages = 65_536 + random.below(2) as u32;
+    match (random.below(3), directory.page_shift) {
+        (0, 12) => {
+            directory.code_limit = pages * 4096 - random.below(4096) as u32;
+            directory.code_count = Some(pages);
+        }
+        (0, 0) => {
+            directory.code_limit = random.number() as u32;
+            directory.code_count = Some(1);
+        }
+        _ => directory.code_limit = near(directory.code_limit, random),
+    }
+}
+
+fn special_count(plan: &mut InputsPlan, random: &mut Random) {
+    let right = plan.directory.special.len() as u32;
+    plan.directory.special_count = Some(match random.below(3) {
+        0 => random.below(14) as u32,
+        _ => near(right, random),
+    });
+}
+
+fn hash_offset(plan: &mut InputsPlan, random: &mut Random) {
+    let right = plan.directory.slots_start() as u32;
+    plan.directory.hash_offset = Some(near(right, random));
+}
+
+fn ident_offset(plan: &mut InputsPlan, random: &mut Random) {
+    let (head, length) = (plan.directory.head() as u32, plan.directory.bytes().len() as u32);
+    plan.directory.ident_offset = Some(match random.below(3) {
+        0 => head - 1,
+        1 => length - random.below(3) as u32,
+        _ => near(head, random),
+    });
+}
+
+/// The identifier lies in the directory's tail, which may hold no zero byte.
+fn no_end(plan: &mut InputsPlan, random: &mut Random) {
+    let length = 1 + random.below(12) as usize;
+    plan.directory.tail = random.bytes(length).into_iter().map(|byte| byte | 1).collect();
+    if random.below(3) == 0 {
+        *plan.directory.tail.last_mut().unwrap() = 0;
+    }
+    let end = plan.directory.bytes().len() as u32;
+    plan.directory.ident_offset = Some(end - length as u32);
+}
+
+fn special_slot(plan: &mut InputsPlan, random: &mut Random) {
+    let k = 1 + index(11, random);
+    let old = plan.directory.special.get(k - 1).copied().unwrap_or_default();
+    let mut slot = old;
+    match random.below(4) {
+        0 => slot = [0; 32],
+        1 => slot.fill_with(|| random.byte()),
+        2 => slot[index(32, random)] ^= 1 << random.below(8),
+        _ => return plan.directory.special.truncate(k - 1),
+    }
+    plan.directory = plan.directory.clone().with_special(k, slot);
+}
+
+fn code_slot(plan: &mut InputsPlan, random: &mut Random) {
+    if plan.directory.code.is_empty() {
+        return;
+    }
+    let at = index(plan.directory.code.len(), random);
+    plan.directory.code[at][index(32, random)] ^= 1 << random.below(8);
+}
+
+fn changed_file(file: &Option<Vec<u8>>, random: &mut Random) -> Option<Vec<u8>> {
+    match file {
+        Some(_) if random.below(2) == 0 => None,
+        _ => Some(some_bytes(200, random)),
+    }
+}
+
+fn info(plan: &mut InputsPlan, random: &mut Random) {
+    plan.info = changed_file(&plan.info, random);
+}
+
+fn resources(plan: &mut InputsPlan, random: &mut Random) {
+    plan.resources = changed_file(&plan.resources, random);
+}
+
+fn drop_blob(plan: &mut InputsPlan, random: &mut Random) {
+    if !plan.blobs.is_empty() {
+        plan.blobs.remove(index(plan.blobs.len(), random));
+    }
+}
+
+/// A blob that its slot does not know: other contents, or a blob that was not there.
+fn change_blob(plan: &mut InputsPlan, random: &mut Random) {
+    let kind = *random.pick(&OTHERS);
+    plan.blobs.retain(|blob| blob.0 != kind);
+    plan.blobs.push((kind, blob_of(kind, &some_bytes(60, random))));
+}
+
+fn category(plan: &mut InputsPlan, random: &mut Random) {
+    plan.category = *random.pick(&[2, 3, 127, 128, 255]);
+}
+
+fn launch(plan: &mut InputsPlan, random: &mut Random) {
+    let kinds = [0, 1, 1, 1, 2, 255];
+    plan.category = 1;
+    plan.launch = Launch {
+        on_authorized_volume: random.below(2) == 0,
+        on_system_volume: random.below(2) == 0,
+        launch_type: *random.pick(&kinds),
+        validation_category: *random.pick(&kinds),
+        parent_is_init: random.below(3) == 0,
+    };
+}

@@ -1,0 +1,128 @@
+//! A run over many cases: the calls of each, the counts, the first difference.
+
+use reference::random::Random;
+use reference::recheck::Range;
+
+use crate::calls::{self, Said};
+use crate::chain;
+use crate::difference::{hex_line, Difference};
+use crate::lookups;
+use crate::scene::{random_of, Scene};
+
+/// Numbers 0 to 34.
+const NUMBERS: usize = 35;
+
+/// Looked up in every signature, with one random number more.
+const LOOKED_UP: [u32; 19] =
+    [0, 1, 2, 3, 4, 5, 6, 7, 8, 9, 10, 11, 12, 0x1000, 0x1002, 0x1004, 0x1005, 0x10000, u32::MAX];
+
+/// How often each number was answered.
+#[derive(Clone, Debug)]
+pub struct Counts {
+    pub checks: [u64; NUMBERS],
+    pub rechecks: [u64; NUMBERS],
+    pub calls: u64,
+}
+
+impl Counts {
+    /// The numbers that no call answered.
+    pub fn missing(&self) -> Vec<usize> {
+        (0..NUMBERS).filter(|&n| self.checks[n] + self.rechecks[n] == 0).collect()
+    }
+}
+
+/// A run under way.
+pub struct Run {
+    seed: u64,
+    case: u64,
+    counts: Counts,
+    difference: Option<Difference>,
+}
+
+impl Run {
+    fn new(seed: u64) -> Run {
+        let counts = Counts { checks: [0; NUMBERS], rechecks: [0; NUMBERS], calls: 0 };
+        Run { seed, case: 0, counts, difference: None }
+    }
+
+    /// Counts a call and keeps the first difference with its input.
+    pub fn hold(&mut self, said: Said, input: impl FnOnce() -> String) {
+        self.counts.calls += 1;
+        if said.agrees() || self.difference.is_some() {
+            return;
+        }
+        let Said { call, library, reference } = said;
+        let (seed, case, input) = (self.seed, self.case, input());
+        self.difference = Some(Difference { seed, case, call, input, library, reference });
+    }
+
+    /// A recheck by both; the marks after it.
+    pub fn recheck(&mut self, signature: &[u8], range: &Range, marks: &[u8]) -> Vec<u8> {
+        let (said, answer, after) = calls::recheck(signature, range, marks);
+        self.counts.rechecks[answer.number as usize] += 1;
+        self.hold(said, || calls::recheck_input(signature, range, marks));
+        after
+    }
+
+    /// Lookups, fields and hash.
+    fn signature(&mut self, signature: &[u8], random: &mut Random) {
+        let input = || {
+            let mut out = String::new();
+            hex_line(&mut out, "signature", signature);
+            out
+        };
+        let any = random.number() as u32;
+        for kind in LOOKED_UP.into_iter().chain([any]) {
+            self.hold(lookups::find(signature, kind), input);
+        }
+        self.hold(lookups::read(signature), input);
+        self.hold(lookups::cdhash(signature), input);
+    }
+
+    fn case(&mut self, case: u64) {
+        self.case = case;
+        let mut random = random_of(self.seed, case);
+        let scene = Scene::new(&mut random);
+        self.signature(&scene.inputs.signature, &mut random);
+        let (said, answer, marks) = calls::check(&scene.inputs, &scene.marks);
+        self.counts.checks[answer.number as usize] += 1;
+        self.hold(said, || calls::check_input(&scene.inputs, &scene.marks));
+        if matches!(answer.number, 0 | 31) {
+            chain::chain(self, scene, marks, &mut random);
+        } else {
+            let marks: Vec<u8> = scene.marks.iter().map(|mark| mark % 2).collect();
+            chain::single(self, &scene, &marks, &mut random);
+        }
+    }
+
+    fn end(self) -> Result<Counts, Box<Difference>> {
+        match self.difference {
+            Some(difference) => Err(Box::new(difference)),
+            None => Ok(self.counts),
+        }
+    }
+}
+
+/// Cases 0 to `cases`, stopping at the first difference; `progress` is told each case.
+pub fn run(
+    seed: u64,
+    cases: u64,
+    mut progress: impl FnMut(u64),
+) -> Result<Counts, Box<Difference>> {
+    let mut run = Run::new(seed);
+    for case in 0..cases {
+        if run.difference.is_some() {
+            break;
+        }
+        progress(case);
+        run.case(case);
+    }
+    run.end()
+}
+
+/// One case again.
+pub fn run_case(seed: u64, case: u64) -> Result<Counts, Box<Difference>> {
+    let mut run = Run::new(seed);
+    run.case(case);
+    run.end()
+}

@@ -1,0 +1,51 @@
+//! A signature as a JSON object.
+
+use super::{hex, Shown};
+use crate::json::{answer, array, object, string};
+
+pub fn text(shown: &Shown) -> String {
+    let said = shown.answer();
+    let mut members = answer(said.number, said.place, &said.sentence());
+    members.push(("blobs", blobs(shown)));
+    if said.accepted() {
+        members.push(("directory", directory(shown)));
+    }
+    object(&members) + "\n"
+}
+
+fn blobs(shown: &Shown) -> String {
+    array(shown.blobs.iter().map(|(kind, name, blob)| {
+        object(&[
+            ("type", kind.to_string()),
+            ("name", string(name)),
+            ("start", blob.start.to_string()),
+            ("length", blob.length.to_string()),
+        ])
+    }))
+}
+
+fn directory(shown: &Shown) -> String {
+    let d = &shown.directory;
+    let slots = |slots: &mut dyn Iterator<Item = &[u8]>| array(slots.map(|s| string(&hex(s))));
+    object(&[
+        ("cdhash", string(&hex(&shown.cdhash.hash))),
+        ("identifier", string(&String::from_utf8_lossy(shown.identifier()))),
+        ("start", d.start.to_string()),
+        ("length", d.length.to_string()),
+        ("version", d.version.to_string()),
+        ("flags", d.flags.to_string()),
+        ("hash_offset", d.hash_offset.to_string()),
+        ("ident_offset", d.ident_offset.to_string()),
+        ("hash_size", d.hash_size.to_string()),
+        ("hash_type", d.hash_type.to_string()),
+        ("platform", d.platform.to_string()),
+        ("page_shift", d.page_shift.to_string()),
+        ("code_limit", d.code_limit.to_string()),
+        ("page_size", d.page_size.to_string()),
+        (
+            "special_slots",
+            slots(&mut (1..=d.special_slots as usize).map(|k| shown.special_slot(k))),
+        ),
+        ("code_slots", slots(&mut (0..d.code_slots as usize).map(|i| shown.code_slot(i)))),
+    ])
+}
