@@ -111,6 +111,7 @@ pub fn cases() -> Vec<Case> {
     random_plans(&mut plans);
     let mut cases: Vec<Case> = plans.iter().map(Plan::case).collect();
     refused_before(&mut cases);
+    empty_requirements(&mut cases);
     cases
 }
 
@@ -202,5 +203,23 @@ fn refused_before(cases: &mut Vec<Case>) {
         let mut damaged = case.clone();
         damaged.signature[at] = value;
         cases.push(damaged);
+    }
+}
+
+/// Document 002's empty requirements blob: its slot right, one bit of the blob changed,
+/// and the slot zeroed.
+fn empty_requirements(cases: &mut Vec<Case>) {
+    let blob = blob_of(2, &[0; 4]);
+    let mut changed = blob.clone();
+    changed[11] ^= 1;
+    for (slot, blob) in [(digest(&blob), &blob), (digest(&blob), &changed), ([0; 32], &blob)] {
+        let directory = DirectoryPlan::new(0x20400).with_special(2, slot);
+        cases.push(Case {
+            signature: SignaturePlan::new(vec![(0, directory.bytes()), (2, blob.clone())]).bytes(),
+            info_there: false,
+            info: Vec::new(),
+            resources_there: false,
+            resources: Vec::new(),
+        });
     }
 }
