@@ -4,8 +4,6 @@ use layout::cache::CacheHead;
 use layout::cache::hash_of;
 use refusals::Answer;
 ghost use mathlib.Core.Path.{_≡_};
-ghost use Prim.Native.Nat.{_≤_};
-ghost use lib.ListN.{length};
 ghost use Rattle.endian.specs.Numbers.{big};
 ghost use Rattle.refusals.specs.Refusals.{holds, lowest, first, accepted};
 ghost use Rattle.trustcache.specs.Rows.{order, notAbove, formRows};
@@ -20,41 +18,8 @@ pub const EQUAL: usize = 1;
 
 pub const ABOVE: usize = 2;
 
-// How the hash x stands to the hash y.
+// How the hash x stands to the hash y. The first byte that differs decides.
 pub fn compare(x: &[u8], y: &[u8]) -> usize
-    ensures { λ r. ⌜ r ≡ order (big 20 (now (x .entry)) 0) (big 20 (now (y .entry)) 0) ⌝ }
-{
-    if x.len() < CacheEntry::HASH {
-        return compare_short(x, y);
-    }
-    if y.len() < CacheEntry::HASH {
-        return compare_short(x, y);
-    }
-    compare_whole(x, y)
-}
-
-// The same of hashes that have all their bytes, read without a test of each place. The first byte that differs decides.
-fn compare_whole(x: &[u8], y: &[u8]) -> usize
-    requires { ⌜ (20 ≤ length (now x)) × (20 ≤ length (now y)) ⌝ }
-    ensures { λ r. ⌜ r ≡ order (big 20 (now (x .entry)) 0) (big 20 (now (y .entry)) 0) ⌝ }
-{
-    let mut k = 0;
-    while k < CacheEntry::HASH {
-        let a = x[k];
-        let b = y[k];
-        if a < b {
-            return BELOW;
-        }
-        if b < a {
-            return ABOVE;
-        }
-        k += 1;
-    }
-    EQUAL
-}
-
-// The same where a cache ends within a hash: bytes past the end count as 0.
-fn compare_short(x: &[u8], y: &[u8]) -> usize
     ensures { λ r. ⌜ r ≡ order (big 20 (now (x .entry)) 0) (big 20 (now (y .entry)) 0) ⌝ }
 {
     let mut i = 0;

@@ -5,8 +5,8 @@ use Prim.Native.Nat.{_-_, _≤_}
 use mathlib.Core.Path.{_≡_}
 use Rattle.endian.specs.Numbers.{big}
 use Rattle.trustcache.specs.Order.{compare-below, compare-above, compare-none, compare-more, compare-equal}
-use Rattle.trustcache.proofs.entries.compare_short.Statement.{statement}
-use Rattle.trustcache.proofs.entries.compare_short.Tie as tie
+use Rattle.trustcache.proofs.entries.compare.Statement.{statement}
+use Rattle.trustcache.proofs.entries.compare.Tie as tie
 
 abbrev Inv-loop : tie.InvT-loop
 Inv-loop x y i₀ i = (i ≤ 20) × (big i x 0 ≡ big i y 0)
@@ -47,8 +47,8 @@ loop-again c = (omega arith, compare-more _ _ _ _ _ (c .before .before .before .
 returns-3 : tie.Need-returns-3 Inv-loop μ-loop
 returns-3 c = compare-equal _ _ _ (omega arith) (c .before .loop .inv .1)
 
-pub compare-short-spec : {M : Type 1} → statement M
-compare-short-spec =
+pub compare-spec : {M : Type 1} → statement M
+compare-spec =
     tie.close
     (tie.spec
     Inv-loop
