@@ -7,9 +7,9 @@ use mathlib.Core.Logic.{_⊎_, inl, inr}
 use mathlib.Core.Path.{_≡_, refl, sym}
 use native.Mathlib.Omega.{arith}
 use Rattle.refusals.specs.Refusals.{Passes}
-use Rattle.refusals.specs.Joined.{append-passes, passes-append}
+use Rattle.refusals.proofs.Joined.{append-passes, passes-append}
 use Rattle.layout.specs.TrustCache.{entryCount, hashTypeAt, categoryAt}
-use Rattle.refusals.specs.Positions.{lowest-most}
+use Rattle.refusals.proofs.Positions.{lowest-most}
 use Rattle.trustcache.specs.declared.launch.Launch.{Launch}
 use Rattle.trustcache.specs.Rows.{hashNumber, formRows, hasHash, entryOf, lookupRows}
 use Rattle.trustcache.specs.Launch.{flag, selfFails, parentFails, launchRows}

@@ -8,9 +8,9 @@ use native.Mathlib.Omega.{arith}
 use lib.ListN.{length}
 use Rattle.refusals.specs.declared.Answer.{Answer}
 use Rattle.refusals.specs.Refusals.{_≡?_, holds, refuse, accepted, first, Passes}
-use Rattle.refusals.specs.Conditions.{says}
-use Rattle.refusals.specs.Exact.{Unused, passes}
-use Rattle.refusals.specs.Joined.{append-passes}
+use Rattle.refusals.proofs.Conditions.{says}
+use Rattle.refusals.proofs.Exact.{Unused, passes}
+use Rattle.refusals.proofs.Joined.{append-passes}
 use Rattle.layout.specs.CodeDirectory.{nCodeSlots}
 use Rattle.superblob.specs.Rows.{rows, headRows, indexRows}
 use Rattle.directory.specs.Pages.{P, pages}
@@ -21,7 +21,7 @@ use Rattle.slots.specs.Slots.{specialRows}
 use Rattle.trustcache.specs.Rows.{formRows, lookupRows}
 use Rattle.trustcache.specs.Launch.{launchRows}
 use Rattle.trustcache.specs.Table.{cacheRows}
-use Rattle.refusals.specs.Joined.{stops-at, stops-alone, passed-at, goes-on}
+use Rattle.refusals.proofs.Joined.{stops-at, stops-alone, passed-at, goes-on}
 use Rattle.pages.specs.Pages.{Fit, pageCount, rangeRows}
 use Rattle.pages.specs.Marks.{slotWidth, markRows, badRows, judged}
 use Rattle.pages.specs.Marking.{RangeHere}

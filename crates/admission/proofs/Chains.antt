@@ -11,7 +11,7 @@ use lib.ListN.{length}
 use borrow.Author.Tests.{eqb-true}
 use Rattle.refusals.specs.declared.Answer.{Answer}
 use Rattle.refusals.specs.Refusals.{refuse, accepted, Passes}
-use Rattle.refusals.specs.Exact.{passed}
+use Rattle.refusals.proofs.Exact.{passed}
 use Rattle.pages.specs.Pages.{Fit, pageCount, wanted, rangeRows}
 use Rattle.pages.specs.Marks.{markOf, markRows, judged}
 use Rattle.pages.specs.Tests.{range-unused, range-passed}

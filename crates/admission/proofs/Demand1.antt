@@ -10,8 +10,8 @@ use lib.ListN.{length}
 use borrow.Author.Tests.{eqb-true, leb-true}
 use Rattle.refusals.specs.declared.Answer.{Answer}
 use Rattle.refusals.specs.Refusals.{_≡?_, holds, Row, accepted, refuse, first}
-use Rattle.refusals.specs.Exact.{Unused, passes, passed}
-use Rattle.refusals.specs.Joined.{first-append}
+use Rattle.refusals.proofs.Exact.{Unused, passes, passed}
+use Rattle.refusals.proofs.Joined.{first-append}
 use Rattle.superblob.specs.Rows.{rows, headRows, indexRows}
 use Rattle.directory.specs.Rows.{fieldRows, slotRows, blobRows, directoryRows, signatureRows}
 use Rattle.slots.specs.Slots.{specialRows}
@@ -25,7 +25,7 @@ use Rattle.admission.specs.Input.{Lent, marksOf}
 use Rattle.admission.specs.Check.{imageRows, countRows, checkRows, entryFor, checkTable, checkAnswer, checkMarks, CheckOutcome, checkOf}
 use Rattle.admission.specs.Recheck.{Call, recheck, inputRows, callRows, remarked, callAnswer, callMarks, CallOutcome, callOf}
 use Rattle.admission.specs.Demand1.{CheckNumber, RecheckNumber, Demand1}
-use Rattle.refusals.specs.Alike.{allIn, first-in}
+use Rattle.refusals.proofs.Alike.{allIn, first-in}
 
 -- THE NUMBERS, as tests that compute
 

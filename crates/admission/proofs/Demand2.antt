@@ -11,9 +11,9 @@ use Rattle.digest.specs.Hash.{digest}
 use Rattle.digest.specs.Sha256.{sha256}
 use Rattle.refusals.specs.declared.Answer.{Answer}
 use Rattle.refusals.specs.Refusals.{_≡?_, Row, refuse, accepted, first, Passes, Decides}
-use Rattle.refusals.specs.Conditions.{says}
-use Rattle.refusals.specs.Exact.{Unused, Distinct, passes, passed, decides, decided}
-use Rattle.refusals.specs.Joined.{first-append, append-passes, passes-append}
+use Rattle.refusals.proofs.Conditions.{says}
+use Rattle.refusals.proofs.Exact.{Unused, Distinct, passes, passed, decides, decided}
+use Rattle.refusals.proofs.Joined.{first-append, append-passes, passes-append}
 use Rattle.layout.specs.CodeDirectory.{nCodeSlots, codeLimit}
 use Rattle.superblob.specs.Rows.{headRows, indexRows, rows, position, blob}
 use Rattle.directory.specs.Rows.{fieldRows, slotRows, blobRows, directoryRows, signatureRows}

@@ -15,7 +15,7 @@ use Rattle.digest.specs.Sha256.{sha256}
 use Rattle.digest.specs.Same.{same}
 use Rattle.refusals.specs.declared.Answer.{Answer}
 use Rattle.refusals.specs.Refusals.{Row, accepted, refuse, first, Passes}
-use Rattle.refusals.specs.Joined.{first-append}
+use Rattle.refusals.proofs.Joined.{first-append}
 use Rattle.layout.specs.CodeDirectory.{codeLimit}
 use Rattle.superblob.specs.Rows.{rows, blob}
 use Rattle.directory.specs.Pages.{P}
@@ -27,7 +27,7 @@ use Rattle.pages.specs.Marking.{marks-below}
 use Rattle.admission.specs.Input.{Lent, longest, directory, limitOf, cdhash, marksOf}
 use Rattle.admission.specs.Check.{imageRows, countRows, checkRows, entryFor, checkTable, checkAnswer, checkMarks, verdictOf, CheckOutcome, checkOf}
 use Rattle.admission.specs.Ignored.{Opaque, SameRead, Alike, Ignored}
-use Rattle.refusals.specs.Alike.{first-behind, among-same}
+use Rattle.refusals.proofs.Alike.{first-behind, among-same}
 use Rattle.admission.proofs.SameRead.{count-same, rows-same, position-same, blob-same}
 
 -- the directory and the blobs that special slots cover are read

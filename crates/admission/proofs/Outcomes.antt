@@ -9,8 +9,8 @@ use lib.Dec.{eqb}
 use lib.ListN.{length}
 use Rattle.refusals.specs.declared.Answer.{Answer}
 use Rattle.refusals.specs.Refusals.{holds, refuse, accepted, first, Passes}
-use Rattle.refusals.specs.Exact.{Unused, passes, passed}
-use Rattle.refusals.specs.Joined.{first-append, passes-append, append-passes}
+use Rattle.refusals.proofs.Exact.{Unused, passes, passed}
+use Rattle.refusals.proofs.Joined.{first-append, passes-append, append-passes}
 use Rattle.layout.specs.CodeDirectory.{nCodeSlots, pageSize}
 use Rattle.superblob.specs.Rows.{rows, headRows, indexRows, rows-unused}
 use Rattle.superblob.specs.Formed.{side-passes}

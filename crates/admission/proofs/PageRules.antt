@@ -9,8 +9,8 @@ use lib.ListN.{length}
 use Rattle.digest.specs.Hash.{digest}
 use Rattle.digest.specs.Sha256.{sha256}
 use Rattle.refusals.specs.Refusals.{Passes}
-use Rattle.refusals.specs.Conditions.{said}
-use Rattle.refusals.specs.Positions.{lowest-below, none-fails}
+use Rattle.refusals.proofs.Conditions.{said}
+use Rattle.refusals.proofs.Positions.{lowest-below, none-fails}
 use Rattle.layout.specs.CodeDirectory.{nCodeSlots, codeLimit}
 use Rattle.pages.specs.Pages.{pageCount, pageOf}
 use Rattle.pages.specs.Marks.{slotAt, marksOf, differs, badRows}

@@ -10,19 +10,20 @@ use lib.Dec.{ltb, eqb}
 use lib.ListN.{length, getD}
 use lib.Seq.{ext-getD}
 use borrow.Author.Tests.{ltb-true, ltb-false, eqb-true, eqb-false}
-use Rattle.endian.specs.Numbers.{big, big-same}
+use Rattle.endian.specs.Numbers.{big}
+use Rattle.endian.proofs.Numbers.{big-same}
 use Rattle.refusals.specs.declared.Answer.{Answer}
 use Rattle.refusals.specs.Refusals.{_<?_, _≡?_, holds, lowest, Row, over, accepted, first, Passes}
-use Rattle.refusals.specs.Conditions.{said}
-use Rattle.refusals.specs.Exact.{passed}
-use Rattle.refusals.specs.Positions.{lowest-below}
-use Rattle.refusals.specs.Joined.{append-passes}
+use Rattle.refusals.proofs.Conditions.{said}
+use Rattle.refusals.proofs.Exact.{passed}
+use Rattle.refusals.proofs.Positions.{lowest-below}
+use Rattle.refusals.proofs.Joined.{append-passes}
 use Rattle.layout.specs.SuperBlob.{magic, superLength, count, indexEnd, typeAt, offsetAt, blobMagic, blobLength}
 use Rattle.superblob.specs.Rows.{unknown, sameType, repeated, outside, wrongMagic, shared, overlaps, headRows, indexRows, rows, rows-unused, ofType, position, blob}
 use Rattle.superblob.specs.Formed.{formed}
 use Rattle.superblob.specs.Blobs.{found-blob, blob-none, blob-refused}
 use Rattle.admission.specs.Ignored.{Opaque, Free, padding, unread, SameRead}
-use Rattle.refusals.specs.Alike.{first-behind, or-behind, lowest-same, over-same}
+use Rattle.refusals.proofs.Alike.{first-behind, or-behind, lowest-same, over-same}
 
 -- tests 5 to 7
 abbrev frameRows : List ℕ → List Row

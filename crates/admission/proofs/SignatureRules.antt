@@ -11,10 +11,10 @@ use lib.ListN.{length, getD}
 use borrow.Author.Tests.{ltb-true, ltb-false}
 use Rattle.refusals.specs.declared.Answer.{Answer}
 use Rattle.refusals.specs.Refusals.{_<?_, pick, accepted, Passes}
-use Rattle.refusals.specs.Conditions.{pick-yes, pick-no}
-use Rattle.refusals.specs.Exact.{passes}
-use Rattle.refusals.specs.Positions.{first-fails, some-fails}
-use Rattle.refusals.specs.Joined.{append-passes, passes-append}
+use Rattle.refusals.proofs.Conditions.{pick-yes, pick-no}
+use Rattle.refusals.proofs.Exact.{passes}
+use Rattle.refusals.proofs.Positions.{first-fails, some-fails}
+use Rattle.refusals.proofs.Joined.{append-passes, passes-append}
 use Rattle.layout.specs.SuperBlob.{count, typeAt}
 use Rattle.layout.specs.CodeDirectory.{identOffset, pageSize}
 use Rattle.superblob.specs.Rows.{headRows, rows, ofType, position, blob}

@@ -7,15 +7,15 @@ use native.Mathlib.Omega.{arith}
 use lib.ListN.{length}
 use Rattle.refusals.specs.declared.Answer.{Answer}
 use Rattle.refusals.specs.Refusals.{refuse, accepted, first}
-use Rattle.refusals.specs.Conditions.{pick-yes, pick-no}
-use Rattle.refusals.specs.Exact.{Unused, decides, passes}
-use Rattle.refusals.specs.Joined.{stops, goes}
+use Rattle.refusals.proofs.Conditions.{pick-yes, pick-no}
+use Rattle.refusals.proofs.Exact.{Unused, decides, passes}
+use Rattle.refusals.proofs.Joined.{stops, goes}
 use Rattle.layout.specs.CodeDirectory.{codeLimit, nCodeSlots}
 use Rattle.directory.specs.Rows.{signatureRows, signatureRows-unused}
 use Rattle.slots.specs.Slots.{Sides, specialRows}
 use Rattle.trustcache.specs.Rows.{entryOf}
 use Rattle.trustcache.specs.Table.{cacheRows}
-use Rattle.refusals.specs.Joined.{goes-on}
+use Rattle.refusals.proofs.Joined.{goes-on}
 use Rattle.pages.specs.Pages.{rangeRows}
 use Rattle.pages.specs.Marks.{markRows}
 use Rattle.pages.specs.Tests.{range-unused}

@@ -7,7 +7,7 @@ use lib.ListN.{length, take, drop}
 use lib.Seq.{length-take-le}
 use Rattle.refusals.specs.declared.Answer.{Answer}
 use Rattle.refusals.specs.Refusals.{accepted, first}
-use Rattle.refusals.specs.Conditions.{pick-yes, pick-no}
+use Rattle.refusals.proofs.Conditions.{pick-yes, pick-no}
 use Rattle.layout.specs.CodeDirectory.{nCodeSlots}
 use Rattle.superblob.specs.Rows.{blob}
 use Rattle.directory.specs.Rows.{signatureRows}

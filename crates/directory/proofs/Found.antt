@@ -9,9 +9,9 @@ use lib.ListN.{length}
 use borrow.Author.Tests.{ltb-true, ltb-false}
 use Rattle.refusals.specs.declared.Answer.{Answer}
 use Rattle.refusals.specs.Refusals.{_≡?_, refuse, accepted, first}
-use Rattle.refusals.specs.Conditions.{says}
-use Rattle.refusals.specs.Exact.{decides}
-use Rattle.refusals.specs.Joined.{goes}
+use Rattle.refusals.proofs.Conditions.{says}
+use Rattle.refusals.proofs.Exact.{decides}
+use Rattle.refusals.proofs.Joined.{goes}
 use Rattle.layout.specs.SuperBlob.{count}
 use Rattle.superblob.specs.Rows.{rows, rows-unused, position, blob}
 use Rattle.superblob.specs.Blobs.{found-blob, blob-none, position-most}

@@ -10,10 +10,10 @@ use lib.ListN.{length, getD}
 use borrow.Author.Tests.{eqb-true, eqb-false}
 use Rattle.refusals.specs.declared.Answer.{Answer}
 use Rattle.refusals.specs.Refusals.{Passes, first, accepted}
-use Rattle.refusals.specs.Conditions.{said}
-use Rattle.refusals.specs.Exact.{passes, passed}
-use Rattle.refusals.specs.Positions.{lowest-before, lowest-fails, lowest-most}
-use Rattle.refusals.specs.Joined.{passes-append, append-passes}
+use Rattle.refusals.proofs.Conditions.{said}
+use Rattle.refusals.proofs.Exact.{passes, passed}
+use Rattle.refusals.proofs.Positions.{lowest-before, lowest-fails, lowest-most}
+use Rattle.refusals.proofs.Joined.{passes-append, append-passes}
 use Rattle.layout.specs.SuperBlob.{count}
 use Rattle.layout.specs.CodeDirectory.{version, identOffset, nSpecialSlots, nCodeSlots, hashSize, hashType, pageSize, codeLimit64}
 use Rattle.superblob.specs.Rows.{rows, position, blob}

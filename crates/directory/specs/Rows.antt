@@ -6,7 +6,7 @@ use mathlib.Core.Path.{_≡_}
 use lib.ListN.{length, getD, take, drop}
 use Rattle.refusals.specs.Ranges.{Range, range, lookup}
 use Rattle.refusals.specs.Refusals.{_<?_, _≡?_, _≢?_, _and_, _or_, Cond, lowest, Row, row}
-use Rattle.refusals.specs.Exact.{Unused, Distinct}
+use Rattle.refusals.proofs.Exact.{Unused, Distinct}
 use Rattle.layout.specs.SuperBlob.{count}
 use Rattle.layout.specs.CodeDirectory.{version, flags, hashOffset, identOffset, nSpecialSlots, nCodeSlots, codeLimit, hashSize, hashType, platform, pageSize, codeLimit64}
 use Rattle.pages.specs.Marks.{slotWidth}

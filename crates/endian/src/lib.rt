@@ -1,4 +1,4 @@
-// Numbers in bytes: a byte, and big- and little-endian numbers of 32 and 64 bits, at any offset of a slice.
+// Numbers in bytes: a byte, big-endian numbers of 32 and 64 bits and little-endian numbers of 32, at any offset of a slice.
 //
 // Every reader is total. A byte past the slice's end counts as 0. The place is `start + field` as a whole number, which
 // never wraps: where a structure starts, and where a field lies in it.
@@ -30,12 +30,6 @@ pub fn le32(s: &[u8], start: usize, field: usize) -> usize
     ensures { λ r. ⌜ (r ≡ little 4 (now (s .entry)) (start + field)) × (r < 4294967296) ⌝ }
 {
     little_endian(s, start, field, 4) as usize
-}
-
-pub fn le64(s: &[u8], start: usize, field: usize) -> u64
-    ensures { λ r. ⌜ r ≡ little 8 (now (s .entry)) (start + field) ⌝ }
-{
-    little_endian(s, start, field, 8)
 }
 
 // The byte at start + field + i. Each test is of a difference, so that no sum wraps.

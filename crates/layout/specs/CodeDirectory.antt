@@ -6,6 +6,30 @@ use lib.ListN.{getD}
 use Rattle.endian.specs.Numbers.{big}
 use Rattle.layout.specs.declared.directory.CodeDirectory.{CodeDirectory}
 
+-- CONSTANTS OF THE LAYOUT
+
+-- CSMAGIC_CODEDIRECTORY
+abbrev pub directoryMagic : ℕ
+directoryMagic = 0xFADE0C02
+
+-- the slot type of the directory that is checked (CSSLOT_CODEDIRECTORY)
+abbrev pub directoryType : ℕ
+directoryType = 0
+
+-- the hash type that is taken (CS_HASHTYPE_SHA256)
+abbrev pub sha256Type : ℕ
+sha256Type = 2
+
+-- bytes of a slot: a SHA-256 hash
+abbrev pub slotWidth : ℕ
+slotWidth = 32
+
+-- where the version ends: what a directory needs for its version to be read
+abbrev pub versionEnd : ℕ
+versionEnd = 12
+
+-- THE FIELDS
+
 unfoldable pub version : List ℕ → ℕ
 version d = big 4 d 8
 

@@ -7,6 +7,40 @@ use Rattle.layout.specs.declared.superblob.SuperBlob.{SuperBlob}
 use Rattle.layout.specs.declared.superblob.BlobIndex.{BlobIndex}
 use Rattle.layout.specs.declared.superblob.Blob.{Blob}
 
+-- CONSTANTS OF THE LAYOUT
+
+-- CSMAGIC_EMBEDDED_SIGNATURE
+abbrev pub superMagic : ℕ
+superMagic = 0xFADE0CC0
+
+-- bytes of the SuperBlob's head, behind which the index starts
+abbrev pub superHead : ℕ
+superHead = 12
+
+-- bytes of an index entry
+abbrev pub indexEntry : ℕ
+indexEntry = 8
+
+-- bytes of a blob's head: magic and length
+abbrev pub blobHead : ℕ
+blobHead = 8
+
+-- the magics of the blobs beside the directory, by Apple's names without CSMAGIC and EMBEDDED
+abbrev pub requirementsMagic : ℕ
+requirementsMagic = 0xFADE0C01
+
+abbrev pub entitlementsMagic : ℕ
+entitlementsMagic = 0xFADE7171
+
+abbrev pub derEntitlementsMagic : ℕ
+derEntitlementsMagic = 0xFADE7172
+
+abbrev pub launchConstraintMagic : ℕ
+launchConstraintMagic = 0xFADE8181
+
+abbrev pub blobWrapperMagic : ℕ
+blobWrapperMagic = 0xFADE0B01
+
 -- THE HEAD
 
 unfoldable pub magic : List ℕ → ℕ
@@ -22,14 +56,14 @@ count s = big 4 s 8
 
 -- where it ends
 unfoldable pub indexEnd : List ℕ → ℕ
-indexEnd s = 12 + 8 * count s
+indexEnd s = superHead + indexEntry * count s
 
 -- the type and the offset at position i
 unfoldable pub typeAt : List ℕ → ℕ → ℕ
-typeAt s i = big 4 s (12 + 8 * i)
+typeAt s i = big 4 s (superHead + indexEntry * i)
 
 unfoldable pub offsetAt : List ℕ → ℕ → ℕ
-offsetAt s i = big 4 s (16 + 8 * i)
+offsetAt s i = big 4 s (superHead + 4 + indexEntry * i)
 
 -- THE BLOBS
 
@@ -51,9 +85,9 @@ pub record HeadRead (s : List ℕ) (h : SuperBlob) : Type 0 where
   pub count-below : h .count < 4294967296
 
 pub record IndexRead (s : List ℕ) (i : ℕ) (e : BlobIndex) : Type 0 where
-  pub kind-is : e .kind ≡ typeAt s i
+  pub slotType-is : e .«slot_type» ≡ typeAt s i
   pub offset-is : e .offset ≡ offsetAt s i
-  pub kind-below : e .kind < 4294967296
+  pub slotType-below : e .«slot_type» < 4294967296
   pub offset-below : e .offset < 4294967296
 
 pub record BlobRead (s : List ℕ) (at : ℕ) (b : Blob) : Type 0 where

@@ -7,24 +7,41 @@ use Rattle.endian.specs.Numbers.{little}
 use Rattle.layout.specs.declared.cache.CacheHead.{CacheHead}
 use Rattle.layout.specs.declared.cache.CacheEntry.{CacheEntry}
 
+-- CONSTANTS OF THE LAYOUT
+
+-- the version that is taken
+abbrev pub versionTaken : ℕ
+versionTaken = 2
+
+-- bytes of the head, behind which the entries start
+abbrev pub cacheHead : ℕ
+cacheHead = 24
+
+-- bytes of an entry, and of the hash with which it opens (CS_CDHASH_LEN)
+abbrev pub entrySize : ℕ
+entrySize = 24
+
+abbrev pub cdhashLength : ℕ
+cdhashLength = 20
+
+-- THE HEAD
+
 unfoldable pub cacheVersion : List ℕ → ℕ
 cacheVersion c = little 4 c 0
 
 unfoldable pub entryCount : List ℕ → ℕ
 entryCount c = little 4 c 20
 
--- entry i: its hash, and the bytes behind it
+-- THE ENTRIES: the hash of entry i, and the bytes behind it
+
 unfoldable pub hashAt : List ℕ → ℕ → List ℕ
-hashAt c i = take 20 (drop (24 + 24 * i) c)
+hashAt c i = take cdhashLength (drop (cacheHead + entrySize * i) c)
 
 unfoldable pub hashTypeAt : List ℕ → ℕ → ℕ
-hashTypeAt c i = getD c (44 + 24 * i) 0
-
-unfoldable pub flagsAt : List ℕ → ℕ → ℕ
-flagsAt c i = getD c (45 + 24 * i) 0
+hashTypeAt c i = getD c (cacheHead + cdhashLength + entrySize * i) 0
 
 unfoldable pub categoryAt : List ℕ → ℕ → ℕ
-categoryAt c i = getD c (46 + 24 * i) 0
+categoryAt c i = getD c (cacheHead + cdhashLength + 2 + entrySize * i) 0
 
 -- WHAT THE CONSTRUCTORS READ
 
@@ -36,8 +53,6 @@ pub record CacheRead (c : List ℕ) (h : CacheHead) : Type 0 where
 
 pub record EntryRead (c : List ℕ) (i : ℕ) (e : CacheEntry) : Type 0 where
   pub hashType-is : e .«hash_type» ≡ hashTypeAt c i
-  pub flags-is : e .flags ≡ flagsAt c i
   pub category-is : e .category ≡ categoryAt c i
   pub hashType-below : e .«hash_type» < 256
-  pub flags-below : e .flags < 256
   pub category-below : e .category < 256

@@ -1,5 +1,6 @@
 // The trust cache, little-endian: version, a 16-byte identifier and the number of entries, then the entries, each a
 // directory's hash cut to 20 bytes, the hash type, flags, the constraint category and a reserved byte.
+use super::parts::part;
 ghost use mathlib.Core.Path.{_≡_};
 ghost use Rattle.layout.specs.TrustCache.{CacheRead, EntryRead, hashAt};
 
@@ -28,7 +29,6 @@ impl CacheHead {
 // What an entry says of its hash. The hash itself is not copied: `hash_of` lends it.
 pub struct CacheEntry {
     pub hash_type: usize,
-    pub flags: usize,
     pub category: usize,
 }
 
@@ -46,7 +46,6 @@ impl CacheEntry {
         if c.len() / CacheEntry::SIZE < i {
             return CacheEntry {
                 hash_type: 0,
-                flags: 0,
                 category: 0,
             };
         }
@@ -54,7 +53,6 @@ impl CacheEntry {
         let behind = CacheHead::HEAD + CacheEntry::HASH;
         CacheEntry {
             hash_type: endian::byte(c, behind, entry),
-            flags: endian::byte(c, behind + 1, entry),
             category: endian::byte(c, behind + 2, entry),
         }
     }
@@ -66,16 +64,11 @@ pub fn hash_of<'a>(c: &'a [u8], i: usize) -> &'a [u8]
 {
     let size = c.len();
     if size / CacheEntry::SIZE < i {
-        return &c[size..];
+        return part(c, size, CacheEntry::HASH);
     }
-    let entry = CacheEntry::SIZE * i;
-    if size - entry < CacheHead::HEAD {
-        return &c[size..];
-    }
-    let start = CacheHead::HEAD + entry;
-    if size - start < CacheEntry::HASH {
-        return &c[start..];
-    }
-    let end = start + CacheEntry::HASH;
-    &c[start..end]
+    part(
+        c,
+        CacheHead::HEAD + CacheEntry::SIZE * i,
+        CacheEntry::HASH,
+    )
 }

@@ -4,4 +4,5 @@
 // as 0, and it is for the caller to test lengths. A field's offset stands once in the code, in the constructor.
 pub mod cache;
 pub mod directory;
+pub mod parts;
 pub mod superblob;

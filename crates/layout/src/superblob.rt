@@ -32,7 +32,7 @@ impl SuperBlob {
 
 // An entry of the index: the slot type of a blob (`type` in Apple's header), and where the blob starts.
 pub struct BlobIndex {
-    pub kind: usize,
+    pub slot_type: usize,
     pub offset: usize,
 }
 
@@ -42,11 +42,14 @@ impl BlobIndex {
         ensures { λ r. ⌜ IndexRead (now (sig .entry)) i r ⌝ }
     {
         if sig.len() / SuperBlob::ENTRY < i {
-            return BlobIndex { kind: 0, offset: 0 };
+            return BlobIndex {
+                slot_type: 0,
+                offset: 0,
+            };
         }
         let entry = SuperBlob::ENTRY * i;
         BlobIndex {
-            kind: endian::be32(sig, SuperBlob::HEAD, entry),
+            slot_type: endian::be32(sig, SuperBlob::HEAD, entry),
             offset: endian::be32(sig, SuperBlob::HEAD + 4, entry),
         }
     }

@@ -9,7 +9,7 @@ use native.Mathlib.Omega.{arith}
 use lib.Dec.{eqb}
 use borrow.Author.Tests.{eqb-true, eqb-false}
 use Rattle.refusals.specs.Refusals.{_≡?_}
-use Rattle.refusals.specs.Conditions.{pick-yes, pick-no}
+use Rattle.refusals.proofs.Conditions.{pick-yes, pick-no}
 use Rattle.pages.specs.Pages.{Fit, pageBytes, pageCount, pageEnd, metFirst, metEnd, metStop, wanted}
 
 -- THE PAGE SIZE

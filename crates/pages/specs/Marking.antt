@@ -10,7 +10,7 @@ use lib.ListN.{length, getD, take, drop, length-drop, length-append}
 use lib.Seq.{drop-drop, length-take-le}
 use Rattle.refusals.specs.declared.Answer.{Answer}
 use Rattle.refusals.specs.Refusals.{holds, lowest, refuse, first, Passes}
-use Rattle.refusals.specs.Positions.{none-fails}
+use Rattle.refusals.proofs.Positions.{none-fails}
 use Rattle.digest.specs.Hash.{digest}
 use Rattle.digest.specs.Sha256.{sha256}
 use Rattle.digest.specs.Same.{same, same-equal, equal-same}

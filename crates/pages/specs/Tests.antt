@@ -6,9 +6,9 @@ use mathlib.Core.List.{List}
 use native.Mathlib.Omega.{arith}
 use lib.ListN.{length, getD}
 use Rattle.refusals.specs.Refusals.{lowest, refuse, Passes}
-use Rattle.refusals.specs.Conditions.{said}
-use Rattle.refusals.specs.Exact.{Unused, Distinct, decides, decided, passes, passed}
-use Rattle.refusals.specs.Positions.{lowest-below, lowest-before, lowest-fails, none-fails, first-fails}
+use Rattle.refusals.proofs.Conditions.{said}
+use Rattle.refusals.proofs.Exact.{Unused, Distinct, decides, decided, passes, passed}
+use Rattle.refusals.proofs.Positions.{lowest-below, lowest-before, lowest-fails, none-fails, first-fails}
 use Rattle.pages.specs.Pages.{wanted, rangeRows}
 use Rattle.pages.specs.Marks.{neither, differs, markRows, badRows, judged}
 

@@ -6,21 +6,23 @@
 --   over n b f      a test over the positions below b, which names the lowest at which f holds;
 --   among b f ns    a test over the positions below b that gives several numbers: the lowest position with a fault decides, whichever
 --                   of the numbers ns its fault is.
--- Exact.antt: the answer is n at p exactly when row n holds with place p and no row before it holds.
+-- proofs/Exact.antt: the answer is n at p exactly when row n holds with place p and no row before it holds.
 use Prim.Native.Nat.{ℕ, zero, suc, _<_, _≤_}
 use mathlib.Core.Bool.{Bool, true, false, not, cond, _&&_, _||_}
 use mathlib.Core.List.{List, [], _∷_}
+use mathlib.Core.Logic.{_↔_}
 use mathlib.Core.Path.{_≡_}
-use lib.Dec.{ltb, eqb}
+use lib.Dec.{ltb, leb, eqb}
 use Rattle.refusals.specs.declared.Answer.{Answer}
 
 -- CONDITIONS
 
-infix 50 _<?_ _≡?_ _≢?_
+infix 50 _<?_ _≤?_ _≡?_ _≢?_
 infixr 25 _and_
 infixr 20 _or_
 pub data Cond : Type 0 where
   _<?_ : ℕ → ℕ → Cond
+  _≤?_ : ℕ → ℕ → Cond
   _≡?_ : ℕ → ℕ → Cond
   _≢?_ : ℕ → ℕ → Cond
   _and_ : Cond → Cond → Cond
@@ -28,6 +30,7 @@ pub data Cond : Type 0 where
 
 unfoldable pub holds : Cond → Bool
 holds (a <? b) = ltb a b
+holds (a ≤? b) = leb a b
 holds (a ≡? b) = eqb a b
 holds (a ≢? b) = not (eqb a b)
 holds (c and d) = holds c && holds d
@@ -37,6 +40,8 @@ holds (c or d) = holds c || holds d
 abbrev pub Says : Bool → Cond → Type 0
 Says true (a <? b) = a < b
 Says false (a <? b) = b ≤ a
+Says true (a ≤? b) = a ≤ b
+Says false (a ≤? b) = b < a
 Says true (a ≡? b) = a ≡ b
 Says false (a ≡? b) = a ≡ b → ⊥
 Says true (a ≢? b) = a ≡ b → ⊥
@@ -110,11 +115,25 @@ abbrev pub Passes : List Row → Type 0
 Passes [] = Unit
 Passes (row m c q ∷ rows) = Says false c × Passes rows
 
--- no row has the number n, and no number stands at two rows: tests that compute
-abbrev pub unusedIn : List Row → ℕ → Bool
-unusedIn [] n = true
-unusedIn (row m c q ∷ rows) n = not (eqb m n) && unusedIn rows n
+-- WHAT A TEST OVER POSITIONS SAYS
 
-abbrev pub distinctIn : List Row → Bool
-distinctIn [] = true
-distinctIn (row m c q ∷ rows) = unusedIn rows m && distinctIn rows
+-- f holds at p, below b, and at no lower position
+pub record LowestAt (f : ℕ → Cond) (b p : ℕ) : Type 0 where
+  pub below : p < b
+  pub here : Says true (f p)
+  pub not-before : (k : ℕ) → k < p → Says false (f k)
+
+-- p is below b and has the fault n, and no lower position has a fault
+pub record FaultAt (fault : ℕ → ℕ) (b n p : ℕ) : Type 0 where
+  pub below : p < b
+  pub here : fault p ≡ n
+  pub not-before : (k : ℕ) → k < p → fault k ≡ 0
+
+-- the row of a test over positions holds with place p exactly when p is the lowest position at which f holds
+abbrev pub OverPlainly : Type 0
+OverPlainly = (b : ℕ) (f : ℕ → Cond) (p : ℕ) → (Says true (lowest f b <? b) × (p ≡ lowest f b)) ↔ LowestAt f b p
+
+-- and a row of one that gives several numbers exactly when p is the lowest position with a fault, and that fault is its number
+abbrev pub AmongPlainly : Type 0
+AmongPlainly = (b : ℕ) (fault : ℕ → ℕ) (n p : ℕ) → (n ≡ 0 → ⊥)
+    → (Says true (lowest (faulty fault) b <? b and fault (lowest (faulty fault) b) ≡? n) × (p ≡ lowest (faulty fault) b)) ↔ FaultAt fault b n p

@@ -12,10 +12,10 @@ use Rattle.digest.specs.Hash.{digest}
 use Rattle.digest.specs.Sha256.{sha256}
 use Rattle.digest.specs.Same.{same}
 use Rattle.refusals.specs.Refusals.{holds, lowest, faulty, refuse, accepted, first}
-use Rattle.refusals.specs.Conditions.{says, said}
-use Rattle.refusals.specs.Positions.{lowest-none, lowest-more, lowest-fails}
-use Rattle.refusals.specs.Several.{fault-decides}
-use Rattle.refusals.specs.Exact.{passes}
+use Rattle.refusals.proofs.Conditions.{says, said}
+use Rattle.refusals.proofs.Positions.{lowest-none, lowest-more, lowest-fails}
+use Rattle.refusals.proofs.Several.{fault-decides}
+use Rattle.refusals.proofs.Exact.{passes}
 use Rattle.refusals.specs.declared.Answer.{Answer}
 use Rattle.layout.specs.CodeDirectory.{nSpecialSlots}
 use Rattle.superblob.specs.Rows.{blob}

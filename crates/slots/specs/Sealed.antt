@@ -13,7 +13,7 @@ use Rattle.digest.specs.Hash.{digest}
 use Rattle.digest.specs.Sha256.{sha256}
 use Rattle.digest.specs.Same.{same, same-equal, equal-same}
 use Rattle.refusals.specs.Refusals.{Passes}
-use Rattle.refusals.specs.Several.{OneOf, clear-passes, passes-clear}
+use Rattle.refusals.proofs.Several.{OneOf, clear-passes, passes-clear}
 use Rattle.superblob.specs.Rows.{blob}
 use Rattle.directory.specs.Rows.{specialSlot}
 use Rattle.slots.specs.Slots.{Sides, allZero, filled, there, thing, faultOf, fault, specialRows}

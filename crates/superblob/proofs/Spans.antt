@@ -5,7 +5,7 @@ use mathlib.Core.Path.{_≡_, refl, sym, ap, _∙_}
 use native.Mathlib.Omega.{arith}
 use Rattle.refusals.specs.declared.Answer.{Answer}
 use Rattle.refusals.specs.Refusals.{first, accepted}
-use Rattle.refusals.specs.Conditions.{pick-yes, pick-no}
+use Rattle.refusals.proofs.Conditions.{pick-yes, pick-no}
 use Rattle.layout.specs.SuperBlob.{count, offsetAt, blobLength}
 use Rattle.superblob.specs.declared.Span.{Span}
 use Rattle.superblob.specs.Rows.{rows, position, present, blobStart, blobEnd, Found}

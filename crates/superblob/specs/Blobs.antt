@@ -9,10 +9,11 @@ use lib.Dec.{ltb}
 use borrow.Author.Tests.{ltb-true, ltb-false}
 use lib.ListN.{length, getD, take, drop, length-drop}
 use lib.Seq.{getD-take, getD-drop, length-take-le}
-use Rattle.endian.specs.Numbers.{big, big-part}
+use Rattle.endian.specs.Numbers.{big}
+use Rattle.endian.proofs.Numbers.{big-part}
 use Rattle.refusals.specs.Refusals.{Cond, lowest, first, accepted}
-use Rattle.refusals.specs.Conditions.{said, pick-yes, pick-no}
-use Rattle.refusals.specs.Positions.{lowest-below, lowest-fails, none-fails, lowest-most}
+use Rattle.refusals.proofs.Conditions.{said, pick-yes, pick-no}
+use Rattle.refusals.proofs.Positions.{lowest-below, lowest-fails, none-fails, lowest-most}
 use Rattle.layout.specs.SuperBlob.{count, typeAt, offsetAt, blobMagic, blobLength}
 use Rattle.superblob.specs.Rows.{magicOf, rows, ofType, position, present, blobStart, blobEnd, blob}
 use Rattle.superblob.specs.Formed.{formed, side-passes}

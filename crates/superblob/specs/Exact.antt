@@ -4,7 +4,7 @@ use mathlib.Core.List.{List}
 use mathlib.Core.Path.{_≡_, sym, ap}
 use Rattle.refusals.specs.declared.Answer.{Answer}
 use Rattle.refusals.specs.Refusals.{Decides, Passes, refuse, first, accepted}
-use Rattle.refusals.specs.Exact.{decides, decided, passes, passed}
+use Rattle.refusals.proofs.Exact.{decides, decided, passes, passed}
 use Rattle.superblob.specs.Rows.{rows, rows-unused, rows-distinct}
 
 -- the answer is n at p exactly when row n holds with place p and no row before it holds

@@ -10,9 +10,9 @@ use borrow.Author.Tests.{ltb-true, ltb-false}
 use native.Mathlib.Omega.{arith}
 use Rattle.refusals.specs.declared.Answer.{Answer}
 use Rattle.refusals.specs.Refusals.{first, accepted, Passes}
-use Rattle.refusals.specs.Conditions.{said}
-use Rattle.refusals.specs.Exact.{passes, passed}
-use Rattle.refusals.specs.Positions.{lowest-below, none-fails}
+use Rattle.refusals.proofs.Conditions.{said}
+use Rattle.refusals.proofs.Exact.{passes, passed}
+use Rattle.refusals.proofs.Positions.{lowest-below, none-fails}
 use Rattle.layout.specs.SuperBlob.{magic, superLength, count, indexEnd, typeAt, offsetAt, blobMagic, blobLength}
 use Rattle.superblob.specs.Rows.{magicOf, unknown, sameType, repeated, outside, wrongMagic, shared, overlaps, headRows, indexRows, rows, rows-unused}
 

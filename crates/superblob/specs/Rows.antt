@@ -6,7 +6,7 @@ use mathlib.Core.Path.{_≡_}
 use lib.ListN.{length, take, drop}
 use Rattle.refusals.specs.Ranges.{Range, range, lookup}
 use Rattle.refusals.specs.Refusals.{_<?_, _≡?_, _≢?_, _and_, _or_, Cond, pick, lowest, Row, row, over, first, accepted}
-use Rattle.refusals.specs.Exact.{Unused, Distinct}
+use Rattle.refusals.proofs.Exact.{Unused, Distinct}
 use Rattle.layout.specs.SuperBlob.{magic, superLength, count, indexEnd, typeAt, offsetAt, blobMagic, blobLength}
 use Rattle.superblob.specs.declared.Span.{Span}
 use Rattle.superblob.specs.declared.Test.{Test}

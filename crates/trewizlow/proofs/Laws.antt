@@ -8,8 +8,8 @@ use lib.ListN.{length, take, drop, replicate, length-drop}
 use lib.Seq.{length-take-le}
 use Rattle.refusals.specs.declared.Answer.{Answer}
 use Rattle.refusals.specs.Refusals.{_≡?_, refuse, accepted}
-use Rattle.refusals.specs.Conditions.{says, pick-yes, pick-no}
-use Rattle.refusals.specs.Exact.{passes, passed}
+use Rattle.refusals.proofs.Conditions.{says, pick-yes, pick-no}
+use Rattle.refusals.proofs.Exact.{passes, passed}
 use Rattle.directory.specs.Rows.{signatureRows, signatureRows-unused}
 use Rattle.digest.specs.Hash.{digest}
 use Rattle.digest.specs.Sha256.{sha256}

@@ -10,7 +10,8 @@ use lib.Dec.{ltb}
 use lib.ListN.{length, getD, take, drop, length-drop}
 use lib.Seq.{ext-getD, getD-take, getD-drop, length-take-le}
 use borrow.Author.Tests.{ltb-true, ltb-false}
-use Rattle.endian.specs.Numbers.{big, big-same}
+use Rattle.endian.specs.Numbers.{big}
+use Rattle.endian.proofs.Numbers.{big-same}
 use Rattle.layout.specs.TrustCache.{hashAt}
 use Rattle.trustcache.specs.Rows.{hashNumber}
 

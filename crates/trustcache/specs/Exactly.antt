@@ -5,8 +5,8 @@ use mathlib.Core.List.{List, [], _∷_, _++_}
 use mathlib.Core.Path.{_≡_, refl, sym, ap, _∙_}
 use Rattle.refusals.specs.declared.Answer.{Answer}
 use Rattle.refusals.specs.Refusals.{holds, Row, row, refuse, first, Decides, Passes}
-use Rattle.refusals.specs.Exact.{Unused, Distinct, decides, decided, passes, passed}
-use Rattle.refusals.specs.Joined.{first-append}
+use Rattle.refusals.proofs.Exact.{Unused, Distinct, decides, decided, passes, passed}
+use Rattle.refusals.proofs.Joined.{first-append}
 use Rattle.trustcache.specs.declared.launch.Launch.{Launch}
 use Rattle.trustcache.specs.Rows.{formRows, entryOf, lookupRows}
 use Rattle.trustcache.specs.Launch.{launchRows}

@@ -11,7 +11,7 @@ use borrow.Author.Tests.{ltb-true, ltb-false, eqb-true, eqb-false}
 use Rattle.endian.specs.Numbers.{big}
 use Rattle.layout.specs.TrustCache.{hashAt}
 use Rattle.refusals.specs.Refusals.{holds}
-use Rattle.refusals.specs.Conditions.{says, pick-yes, pick-no}
+use Rattle.refusals.proofs.Conditions.{says, pick-yes, pick-no}
 use Rattle.trustcache.specs.Rows.{hashNumber, order, notAbove}
 use Rattle.trustcache.specs.Bytes.{AllBytes, less-number, number-at}
 

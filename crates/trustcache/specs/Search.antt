@@ -12,8 +12,8 @@ use lib.Pow.{pow-pos}
 use borrow.Author.Tests.{ltb-true, ltb-false}
 use Rattle.layout.specs.TrustCache.{entryCount}
 use Rattle.refusals.specs.Refusals.{lowest, Passes}
-use Rattle.refusals.specs.Conditions.{said}
-use Rattle.refusals.specs.Positions.{lowest-below, lowest-fails, none-fails, first-fails}
+use Rattle.refusals.proofs.Conditions.{said}
+use Rattle.refusals.proofs.Positions.{lowest-below, lowest-fails, none-fails, first-fails}
 use Rattle.trustcache.specs.declared.search.Found.{Found}
 use Rattle.trustcache.specs.Found.{Looked}
 use Rattle.trustcache.specs.Rows.{hashNumber, notAbove, formRows, hasHash, entryOf}

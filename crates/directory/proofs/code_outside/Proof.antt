@@ -1,7 +1,7 @@
 -- Each return is one part of the condition.
 use native.Mathlib.Omega.{arith}
 use mathlib.Core.Bool.{true, false}
-use Rattle.refusals.specs.Conditions.{says}
+use Rattle.refusals.proofs.Conditions.{says}
 use Rattle.directory.specs.Rows.{codeOutside}
 use borrow.Author.Needs.{needs}
 use Rattle.directory.proofs.code_outside.Statement.{statement}

@@ -4,7 +4,7 @@ use Prim.Native.Nat.{ℕ}
 use mathlib.Core.Logic.{_⊎_, inl, inr, ⊎-elim}
 use native.Mathlib.Omega.{arith}
 use Rattle.refusals.specs.Refusals.{accepted}
-use Rattle.refusals.specs.Exact.{decides, passes}
+use Rattle.refusals.proofs.Exact.{decides, passes}
 use Rattle.directory.specs.Rows.{fieldRows}
 use borrow.Author.Needs.{needs}
 use Rattle.directory.proofs.fields_tested.Statement.{statement}

@@ -7,9 +7,9 @@ use mathlib.Core.Path.{_≡_, _∙_}
 use native.Mathlib.Omega.{arith}
 use mathlib.Core.Bool.{true, false}
 use lib.ListN.{length}
-use Rattle.refusals.specs.Conditions.{says}
+use Rattle.refusals.proofs.Conditions.{says}
 use Rattle.refusals.specs.Refusals.{lowest}
-use Rattle.refusals.specs.Positions.{lowest-none, lowest-more, lowest-stop, lowest-end}
+use Rattle.refusals.proofs.Positions.{lowest-none, lowest-more, lowest-stop, lowest-end}
 use Rattle.layout.specs.CodeDirectory.{identOffset}
 use Rattle.directory.specs.Rows.{zeroAt, identLength}
 use borrow.Author.Needs.{needs}

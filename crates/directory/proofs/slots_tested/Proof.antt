@@ -3,8 +3,8 @@ use mathlib.Core.Bool.{Bool, true, false}
 use mathlib.Core.Path.{_≡_, _∙_, sym, refl}
 use native.Mathlib.Omega.{arith}
 use Rattle.refusals.specs.Refusals.{Cond, _or_, holds, Says, accepted}
-use Rattle.refusals.specs.Conditions.{says, said}
-use Rattle.refusals.specs.Exact.{decides, passes}
+use Rattle.refusals.proofs.Conditions.{says, said}
+use Rattle.refusals.proofs.Exact.{decides, passes}
 use Rattle.directory.specs.Rows.{slotRows, specialOutside, codeOutside}
 use borrow.Author.Needs.{needs}
 use Rattle.directory.proofs.slots_tested.Statement.{statement}

@@ -1,6 +1,6 @@
 -- Tests 1 to 9, and where they pass 10, by what the lookup hands back, and the directory's own.
 use native.Mathlib.Omega.{arith}
-use Rattle.refusals.specs.Joined.{stops}
+use Rattle.refusals.proofs.Joined.{stops}
 use Rattle.superblob.specs.Rows.{rows}
 use Rattle.directory.specs.Rows.{directoryRows, signatureRows}
 use Rattle.directory.proofs.Found.{found-none, found-some}

@@ -4,7 +4,7 @@ use mathlib.Core.Path.{_≡_}
 use native.Mathlib.Omega.{arith}
 use borrow.Author.Needs.{needs}
 use Rattle.refusals.specs.Refusals.{lowest, faulty}
-use Rattle.refusals.specs.Positions.{lowest-more, lowest-stop, lowest-end}
+use Rattle.refusals.proofs.Positions.{lowest-more, lowest-stop, lowest-end}
 use Rattle.slots.specs.Slots.{sides, fault}
 use Rattle.slots.proofs.Laws.{first-slot, slot-fails, slot-passes}
 use Rattle.slots.proofs.lowest_fault.Statement.{statement}

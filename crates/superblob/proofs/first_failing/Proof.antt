@@ -3,7 +3,7 @@ use Prim.Native.Nat.{_-_, _≤_}
 use mathlib.Core.Path.{_≡_}
 use native.Mathlib.Omega.{arith}
 use Rattle.refusals.specs.Refusals.{lowest}
-use Rattle.refusals.specs.Positions.{lowest-none, lowest-more, lowest-stop, lowest-end}
+use Rattle.refusals.proofs.Positions.{lowest-none, lowest-more, lowest-stop, lowest-end}
 use Rattle.layout.specs.SuperBlob.{count}
 use Rattle.superblob.specs.Rows.{failing}
 use borrow.Author.Needs.{needs}

@@ -2,7 +2,7 @@
 use mathlib.Core.Path.{_∙_}
 use native.Mathlib.Omega.{arith}
 use Rattle.refusals.specs.Refusals.{accepted}
-use Rattle.refusals.specs.Exact.{decides, passes}
+use Rattle.refusals.proofs.Exact.{decides, passes}
 use Rattle.superblob.specs.Rows.{indexRows}
 use borrow.Author.Needs.{needs}
 use Rattle.superblob.proofs.index_tested.Statement.{statement}

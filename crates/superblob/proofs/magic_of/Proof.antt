@@ -1,6 +1,6 @@
 -- Each arm is a range of the table, and the default is what no range holds.
 use native.Mathlib.Omega.{arith}
-use Rattle.refusals.specs.Ranges.{hits, misses}
+use Rattle.refusals.proofs.Ranges.{hits, misses}
 use Rattle.superblob.specs.Rows.{magicOf, slotMagics}
 use Rattle.superblob.proofs.magic_of.Statement.{statement}
 use Rattle.superblob.proofs.magic_of.Tie as tie

@@ -1,7 +1,7 @@
 -- Each return is one part of the condition; the last, none of them.
 use native.Mathlib.Omega.{arith}
 use Rattle.superblob.specs.Rows.{outside}
-use Rattle.refusals.specs.Conditions.{says}
+use Rattle.refusals.proofs.Conditions.{says}
 use mathlib.Core.Bool.{true, false}
 use borrow.Author.Needs.{needs}
 use Rattle.superblob.proofs.outside_at.Statement.{statement}

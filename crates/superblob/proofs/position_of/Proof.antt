@@ -3,9 +3,9 @@ use Prim.Native.Nat.{_-_, _≤_}
 use mathlib.Core.Path.{_≡_}
 use native.Mathlib.Omega.{arith}
 use Rattle.superblob.specs.Rows.{ofType, position}
-use Rattle.refusals.specs.Conditions.{says}
+use Rattle.refusals.proofs.Conditions.{says}
 use Rattle.refusals.specs.Refusals.{lowest}
-use Rattle.refusals.specs.Positions.{lowest-none, lowest-more, lowest-stop, lowest-end}
+use Rattle.refusals.proofs.Positions.{lowest-none, lowest-more, lowest-stop, lowest-end}
 use mathlib.Core.Bool.{true, false}
 use Rattle.layout.specs.SuperBlob.{count}
 use borrow.Author.Needs.{needs}

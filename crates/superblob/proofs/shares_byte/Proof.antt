@@ -1,7 +1,7 @@
 -- Where one ends before the other starts no byte is shared, and else the later start is.
 use native.Mathlib.Omega.{arith}
 use mathlib.Core.Bool.{true, false}
-use Rattle.refusals.specs.Conditions.{says}
+use Rattle.refusals.proofs.Conditions.{says}
 use Rattle.superblob.specs.Rows.{shared}
 use borrow.Author.Needs.{needs}
 use Rattle.superblob.proofs.shares_byte.Statement.{statement}

@@ -1,6 +1,6 @@
 -- Tests 1 to 4, and where they pass 5 to 9.
 use native.Mathlib.Omega.{arith}
-use Rattle.refusals.specs.Joined.{stops, goes}
+use Rattle.refusals.proofs.Joined.{stops, goes}
 use Rattle.superblob.specs.Rows.{headRows, indexRows, rows, headRows-unused}
 use borrow.Author.Needs.{needs}
 use Rattle.superblob.proofs.tested.Statement.{statement}

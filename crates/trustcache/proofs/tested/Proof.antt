@@ -5,12 +5,12 @@ use mathlib.Core.Path.{_≡_, refl, sym, ap, _∙_}
 use Rattle.layout.specs.TrustCache.{categoryAt}
 use Rattle.refusals.specs.declared.Answer.{Answer}
 use Rattle.refusals.specs.Refusals.{refuse, accepted, first, Passes}
-use Rattle.refusals.specs.Exact.{passes}
+use Rattle.refusals.proofs.Exact.{passes}
 use Rattle.trustcache.specs.declared.launch.Launch.{Launch}
 use Rattle.trustcache.specs.Rows.{formRows, entryOf, lookupRows}
 use Rattle.trustcache.specs.Launch.{launchRows}
 use Rattle.trustcache.specs.Table.{cacheRows}
-use Rattle.refusals.specs.Joined.{stops-at, stops-alone, passed-at, goes-on}
+use Rattle.refusals.proofs.Joined.{stops-at, stops-alone, passed-at, goes-on}
 use Rattle.trustcache.specs.Exactly.{form-unused, lookup-unused, launch-unused, answerOf}
 use borrow.Author.Needs.{needs}
 use Rattle.trustcache.proofs.tested.Statement.{statement}

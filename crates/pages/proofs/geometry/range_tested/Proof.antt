@@ -1,7 +1,7 @@
 -- Each refusal is its own row, with no row before it; the limit is compared with differences, which say the same of the sum.
 use native.Mathlib.Omega.{arith}
 use Rattle.refusals.specs.Refusals.{accepted}
-use Rattle.refusals.specs.Exact.{decides, passes}
+use Rattle.refusals.proofs.Exact.{decides, passes}
 use Rattle.pages.specs.Pages.{rangeRows}
 use borrow.Author.Needs.{needs}
 use Rattle.pages.proofs.geometry.range_tested.Statement.{statement}

@@ -1,7 +1,7 @@
 -- The lowest such mark decides the one row; where there is none it does not hold.
 use native.Mathlib.Omega.{arith}
 use Rattle.refusals.specs.Refusals.{refuse}
-use Rattle.refusals.specs.Exact.{decides, passes}
+use Rattle.refusals.proofs.Exact.{decides, passes}
 use Rattle.pages.specs.Marks.{judged, badRows}
 use borrow.Author.Needs.{needs}
 use Rattle.pages.proofs.marks.judge.Statement.{statement}

@@ -5,8 +5,8 @@ use mathlib.Core.Path.{_≡_}
 use mathlib.Core.Bool.{true, false}
 use lib.ListN.{length}
 use Rattle.refusals.specs.Refusals.{lowest}
-use Rattle.refusals.specs.Conditions.{says}
-use Rattle.refusals.specs.Positions.{lowest-none, lowest-more, lowest-stop, lowest-end}
+use Rattle.refusals.proofs.Conditions.{says}
+use Rattle.refusals.proofs.Positions.{lowest-none, lowest-more, lowest-stop, lowest-end}
 use Rattle.pages.specs.Marks.{neither}
 use Rattle.pages.proofs.marks.lowest_neither.Statement.{statement}
 use Rattle.pages.proofs.marks.lowest_neither.Tie as tie

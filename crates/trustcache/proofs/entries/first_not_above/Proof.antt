@@ -4,7 +4,7 @@ use native.Mathlib.Omega.{arith}
 use Prim.Native.Nat.{_-_, _≤_}
 use mathlib.Core.Path.{_≡_}
 use Rattle.refusals.specs.Refusals.{lowest}
-use Rattle.refusals.specs.Positions.{lowest-none, lowest-more, lowest-stop, lowest-end}
+use Rattle.refusals.proofs.Positions.{lowest-none, lowest-more, lowest-stop, lowest-end}
 use Rattle.trustcache.specs.Rows.{notAbove}
 use Rattle.trustcache.proofs.entries.first_not_above.Statement.{statement}
 use Rattle.trustcache.proofs.entries.first_not_above.Tie as tie

@@ -2,7 +2,7 @@
 use native.Mathlib.Omega.{arith}
 use mathlib.Core.Path.{ap, _∙_}
 use Rattle.refusals.specs.Refusals.{lowest, accepted}
-use Rattle.refusals.specs.Exact.{decides, passes}
+use Rattle.refusals.proofs.Exact.{decides, passes}
 use Rattle.trustcache.specs.Rows.{notAbove, formRows}
 use borrow.Author.Needs.{needs}
 use Rattle.trustcache.proofs.entries.form_tested.Statement.{statement}

@@ -2,7 +2,7 @@
 use native.Mathlib.Omega.{arith}
 use mathlib.Core.Path.{refl}
 use Rattle.refusals.specs.Refusals.{accepted}
-use Rattle.refusals.specs.Exact.{decides, passes}
+use Rattle.refusals.proofs.Exact.{decides, passes}
 use Rattle.trustcache.specs.Launch.{launchRows, selfFails, parentFails}
 use borrow.Author.Needs.{needs}
 use Rattle.trustcache.proofs.launch.launch_tested.Statement.{statement}

@@ -5,7 +5,7 @@ use mathlib.Core.List.{List}
 use mathlib.Core.Path.{_≡_, ap, _∙_}
 use Rattle.layout.specs.TrustCache.{entryCount, hashTypeAt, categoryAt}
 use Rattle.refusals.specs.Refusals.{refuse, first}
-use Rattle.refusals.specs.Exact.{decides, passes}
+use Rattle.refusals.proofs.Exact.{decides, passes}
 use Rattle.trustcache.specs.Rows.{entryOf, lookupRows}
 use borrow.Author.Needs.{needs}
 use Rattle.trustcache.proofs.search.lookup_tested.Statement.{statement}

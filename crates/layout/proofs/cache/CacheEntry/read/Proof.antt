@@ -2,21 +2,19 @@
 use Prim.Native.Nat.{_+_, _*_}
 use native.Mathlib.Omega.{arith}
 use Rattle.endian.proofs.Laws.{past}
-use Rattle.layout.specs.TrustCache.{hashTypeAt, flagsAt, categoryAt}
+use Rattle.layout.specs.TrustCache.{hashTypeAt, categoryAt}
 use borrow.Author.Needs.{needs}
 use Rattle.layout.proofs.cache.CacheEntry.read.Statement.{statement}
 use Rattle.layout.proofs.cache.CacheEntry.read.Tie as tie
 
 returns : tie.Need-returns
-unfolding hashTypeAt flagsAt categoryAt
+unfolding hashTypeAt categoryAt
 returns c =
     let a = c .before .before .args in
     record {
       hashType-is = past (a .c .now) (44 + 24 * a .i) (omega arith);
-      flags-is = past (a .c .now) (45 + 24 * a .i) (omega arith);
       category-is = past (a .c .now) (46 + 24 * a .i) (omega arith);
       hashType-below = omega arith;
-      flags-below = omega arith;
       category-below = omega arith;
     }
 
@@ -35,14 +33,8 @@ add-byte c = search needs
 byte-requires-2 : tie.Need-byte-requires-2
 byte-requires-2 c κs = search needs
 
-add-byte-2 : tie.Need-add-byte-2
-add-byte-2 c = search needs
-
-byte-requires-3 : tie.Need-byte-requires-3
-byte-requires-3 c κs = search needs
-
 returns-2 : tie.Need-returns-2
-unfolding hashTypeAt flagsAt categoryAt
+unfolding hashTypeAt categoryAt
 returns-2 c = search needs
 
 pub read-spec : {M : Type 1} → statement M
@@ -55,6 +47,4 @@ read-spec =
     byte-requires
     add-byte
     byte-requires-2
-    add-byte-2
-    byte-requires-3
     returns-2)

@@ -2,7 +2,7 @@
 use Prim.Native.Nat.{_+_, _*_}
 use mathlib.Core.Path.{sym}
 use native.Mathlib.Omega.{arith}
-use Rattle.endian.specs.Numbers.{big-past}
+use Rattle.endian.proofs.Numbers.{big-past}
 use Rattle.layout.specs.SuperBlob.{typeAt, offsetAt}
 use borrow.Author.Needs.{needs}
 use Rattle.layout.proofs.superblob.BlobIndex.read.Statement.{statement}
@@ -13,9 +13,9 @@ unfolding typeAt offsetAt
 returns c =
     let a = c .before .before .args in
     record {
-      kind-is = sym (big-past 4 (a .sig .now) (12 + 8 * a .i) (omega arith));
+      slotType-is = sym (big-past 4 (a .sig .now) (12 + 8 * a .i) (omega arith));
       offset-is = sym (big-past 4 (a .sig .now) (16 + 8 * a .i) (omega arith));
-      kind-below = omega arith;
+      slotType-below = omega arith;
       offset-below = omega arith;
     }
 

@@ -4,7 +4,7 @@ use mathlib.Core.Bool.{Bool, true, false, cond}
 use mathlib.Core.Path.{_≡_, refl, sym, ap, _∙_}
 use Rattle.refusals.specs.declared.Answer.{Answer}
 use Rattle.refusals.specs.Refusals.{holds, Row, row, refuse, accepted, first, Passes}
-use Rattle.refusals.specs.Exact.{Unused, passes, passed}
+use Rattle.refusals.proofs.Exact.{Unused, passes, passed}
 
 pub first-append : (rows more : List Row) (done : Answer) → first (rows ++ more) done ≡ first rows (first more done)
 unfolding first

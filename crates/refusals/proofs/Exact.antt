@@ -7,8 +7,8 @@ use mathlib.Core.Path.{_≡_, refl, sym, ap, subst}
 use lib.Dec.{T, eqb}
 use borrow.Author.Tests.{eqb-true, eqb-false, eq-eqb}
 use Rattle.refusals.specs.declared.Answer.{Answer}
-use Rattle.refusals.specs.Refusals.{Cond, holds, Says, Row, row, refuse, first, either, Decides, Passes, unusedIn, distinctIn}
-use Rattle.refusals.specs.Conditions.{says, said}
+use Rattle.refusals.specs.Refusals.{Cond, holds, Says, Row, row, refuse, first, either, Decides, Passes}
+use Rattle.refusals.proofs.Conditions.{says, said}
 
 by-number : (c : Cond) (m q n p : ℕ) (rest : Answer) (D : Type 0) (b : Bool) → b ≡ eqb m n → (D → refuse n p ≡ rest)
     → either b (Says true c × (p ≡ q)) (Says false c × D) → refuse n p ≡ cond (holds c) (refuse m q) rest
@@ -26,6 +26,17 @@ pub passes : (rows : List Row) (done : Answer) → Passes rows → done ≡ firs
 unfolding first
 passes [] done h = refl
 passes (row m c q ∷ rows) done h = rw (← says false c (h .0)) (passes rows done (h .1))
+
+-- NUMBERS
+
+-- no row has the number n, and no number stands at two rows: tests that compute
+abbrev pub unusedIn : List Row → ℕ → Bool
+unusedIn [] n = true
+unusedIn (row m c q ∷ rows) n = not (eqb m n) && unusedIn rows n
+
+abbrev pub distinctIn : List Row → Bool
+distinctIn [] = true
+distinctIn (row m c q ∷ rows) = unusedIn rows m && distinctIn rows
 
 abbrev pub Unused : List Row → ℕ → Type 0
 Unused rows n = T (unusedIn rows n)

@@ -8,8 +8,8 @@ use Prim.Native.Nat.{ℕ, _+_, _-_, _≤_}
 use native.Mathlib.Omega.{arith}
 use lib.ListN.{length, take, drop}
 use borrow.Author.Needs.{needs}
-use Rattle.directory.proofs.part.Statement.{statement}
-use Rattle.directory.proofs.part.Tie as tie
+use Rattle.layout.proofs.parts.part.Statement.{statement}
+use Rattle.layout.proofs.parts.part.Tie as tie
 
 none : (d : List ℕ) (start size : ℕ) → length d ≤ start → take (length d - length d) (drop (length d) d) ≡ take size (drop start d)
 none d start size h =
@@ -37,7 +37,7 @@ part-result-end c = search needs
 returns : tie.Need-returns
 returns c =
     let a = c .before .before .args in
-    none (a .d .now) (a .start) (a .size) (omega arith)
+    none (a .s .now) (a .start) (a .size) (omega arith)
 
 sub-if2 : tie.Need-sub-if2
 sub-if2 c = search needs
@@ -54,7 +54,7 @@ part-result-end-2 c = search needs
 returns-2 : tie.Need-returns-2
 returns-2 c =
     let a = c .before .before .before .args in
-    cut (a .d .now) (a .start) (a .size) (omega arith)
+    cut (a .s .now) (a .start) (a .size) (omega arith)
 
 add-end : tie.Need-add-end
 add-end c = search needs
@@ -71,7 +71,7 @@ part-result-end-3 c = search needs
 returns-3 : tie.Need-returns-3
 returns-3 c =
     let a = c .before .before .before .args in
-    whole (a .d .now) (a .start) (a .size)
+    whole (a .s .now) (a .start) (a .size)
 
 pub part-spec : {M : Type 1} → statement M
 part-spec =

@@ -9,9 +9,9 @@ use borrow.Author.Tests.{ltb-true, ltb-false, eqb-true, eqb-false}
 use native.Mathlib.Omega.{arith}
 use Rattle.refusals.specs.Refusals.{lowest, faulty, among, Passes, Decides, either, refuse, first}
 use Rattle.refusals.specs.declared.Answer.{Answer}
-use Rattle.refusals.specs.Conditions.{said}
-use Rattle.refusals.specs.Exact.{decides}
-use Rattle.refusals.specs.Positions.{none-fails, lowest-below, lowest-fails}
+use Rattle.refusals.proofs.Conditions.{said}
+use Rattle.refusals.proofs.Exact.{decides}
+use Rattle.refusals.proofs.Positions.{none-fails, lowest-below, lowest-fails}
 
 -- x is one of the numbers, or 0
 abbrev pub OneOf : List ℕ → ℕ → Type 0

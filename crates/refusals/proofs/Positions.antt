@@ -9,7 +9,7 @@ use native.Mathlib.Nat.{eq-or-lt-of-le, le-of-suc-le-suc}
 use native.Mathlib.Numerals.{add-one}
 use native.Mathlib.Omega.{arith}
 use Rattle.refusals.specs.Refusals.{Cond, holds, Says, orAt, lowest}
-use Rattle.refusals.specs.Conditions.{says, said}
+use Rattle.refusals.proofs.Conditions.{says, said}
 
 -- a search that has passed every position below i, and what it finds at i
 module _ (f : ℕ → Cond) where

@@ -4,8 +4,8 @@ use Prim.Native.Nat.{ℕ}
 use mathlib.Core.Bool.{Bool, true, false, not, _&&_, _||_, true≢false, false≢true}
 use mathlib.Core.Path.{_≡_, refl, sym}
 use lib.Dec.{eqb}
-use borrow.Author.Tests.{lt-ltb, le-ltb, ltb-true, ltb-false, eqb-true, eqb-false, eq-eqb, ne-eqb}
-use Rattle.refusals.specs.Refusals.{Cond, _<?_, _≡?_, _≢?_, _and_, _or_, holds, Says, pick}
+use borrow.Author.Tests.{lt-ltb, le-ltb, ltb-true, ltb-false, le-leb, lt-leb, leb-true, leb-false, eqb-true, eqb-false, eq-eqb, ne-eqb}
+use Rattle.refusals.specs.Refusals.{Cond, _<?_, _≤?_, _≡?_, _≢?_, _and_, _or_, holds, Says, pick}
 
 not-not : (b : Bool) → not b ≡ false → b ≡ true
 not-not true e = refl
@@ -57,6 +57,7 @@ record Tells (c : Cond) : Type 0 where
 tells : (c : Cond) → Tells c
 unfolding holds
 tells (a <? b) = record { yes = lt-ltb a b; no = le-ltb a b; if-yes = ltb-true a b; if-no = ltb-false a b }
+tells (a ≤? b) = record { yes = le-leb a b; no = lt-leb a b; if-yes = leb-true a b; if-no = leb-false a b }
 tells (a ≡? b) = record { yes = eq-eqb a b; no = ne-eqb a b; if-yes = eqb-true a b; if-no = eqb-false a b }
 tells (a ≢? b) =
     record {

@@ -8,8 +8,8 @@ use native.Mathlib.Omega.{arith}
 use lib.Dec.{T}
 use Rattle.refusals.specs.declared.Answer.{Answer}
 use Rattle.refusals.specs.Refusals.{Cond, _≢?_, _or_, holds, Says, lowest, Row, row, over, faulty, among, refuse, first, Passes}
-use Rattle.refusals.specs.Conditions.{said}
-use Rattle.refusals.specs.Positions.{lowest-most}
+use Rattle.refusals.proofs.Conditions.{said}
+use Rattle.refusals.proofs.Positions.{lowest-most}
 
 -- TABLES THAT ANSWER THE SAME
 
