@@ -24,9 +24,9 @@ use Rattle.trustcache.specs.Table.{cacheRows}
 use Rattle.refusals.proofs.Joined.{stops-at, stops-alone, passed-at, goes-on}
 use Rattle.pages.specs.Pages.{Fit, pageCount, rangeRows}
 use Rattle.pages.specs.Marks.{slotWidth, markRows, badRows, judged}
-use Rattle.pages.specs.Marking.{RangeHere}
-use Rattle.pages.specs.Geometry.{fit-of}
-use Rattle.pages.specs.Tests.{range-passed}
+use Rattle.pages.specs.Marks.{RangeHere}
+use Rattle.pages.proofs.Pages.{fit-of}
+use Rattle.pages.proofs.Tests.{range-passed}
 use Rattle.admission.specs.declared.Verdict.{Verdict}
 use Rattle.admission.specs.Input.{Lent, longest, directory, pageBytesOf, limitOf, slotsOf, marksOf, ImageHere}
 use Rattle.admission.specs.Check.{imageRows, countRows, checkRows, entryFor, checkTested, checkTable, checkAnswer, checkMarks, verdictOf, CheckOutcome, checkOf, Checked}

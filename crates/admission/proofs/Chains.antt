@@ -14,9 +14,9 @@ use Rattle.refusals.specs.Refusals.{refuse, accepted, Passes}
 use Rattle.refusals.proofs.Exact.{passed}
 use Rattle.pages.specs.Pages.{Fit, pageCount, wanted, rangeRows}
 use Rattle.pages.specs.Marks.{markOf, markRows, judged}
-use Rattle.pages.specs.Tests.{range-unused, range-passed}
-use Rattle.pages.specs.Marking.{marks-length, marks-at, marks-pass}
-use Rattle.pages.specs.Spliced.{spliced-length, remarked-marks}
+use Rattle.pages.proofs.Tests.{range-unused, range-passed}
+use Rattle.pages.proofs.Marking.{marks-length, marks-at, marks-pass}
+use Rattle.pages.proofs.Spliced.{spliced-length, remarked-marks}
 use Rattle.admission.specs.declared.Verdict.{Verdict}
 use Rattle.admission.specs.Input.{Lent, withImage, pageBytesOf, limitOf, slotsOf, marksOf}
 use Rattle.admission.specs.Check.{countRows, checkRows, checkAnswer, CheckOutcome, checkOf, Checked}

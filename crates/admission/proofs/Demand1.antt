@@ -20,7 +20,7 @@ use Rattle.trustcache.specs.Launch.{launchRows}
 use Rattle.trustcache.specs.Table.{cacheRows}
 use Rattle.pages.specs.Pages.{rangeRows}
 use Rattle.pages.specs.Marks.{markRows, badRows, judged}
-use Rattle.pages.specs.Marking.{judged-number}
+use Rattle.pages.proofs.Marking.{judged-number}
 use Rattle.admission.specs.Input.{Lent, marksOf}
 use Rattle.admission.specs.Check.{imageRows, countRows, checkRows, entryFor, checkTable, checkAnswer, checkMarks, CheckOutcome, checkOf}
 use Rattle.admission.specs.Recheck.{Call, recheck, inputRows, callRows, remarked, callAnswer, callMarks, CallOutcome, callOf}

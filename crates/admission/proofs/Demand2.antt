@@ -24,7 +24,7 @@ use Rattle.trustcache.specs.Launch.{launchRows}
 use Rattle.trustcache.specs.Table.{cacheRows}
 use Rattle.pages.specs.Pages.{pageCount, pageOf, rangeRows}
 use Rattle.pages.specs.Marks.{agrees, markOf, markRows, badRows}
-use Rattle.pages.specs.Marking.{marks-at, marks-length}
+use Rattle.pages.proofs.Marking.{marks-at, marks-length}
 use Rattle.admission.specs.Input.{Lent, longest, cdhash, pageBytesOf, limitOf, slotsOf, marksOf}
 use Rattle.admission.specs.Check.{imageRows, countRows, checkRows, entryFor, checkTable, checkAnswer, checkMarks, verdictOf, CheckOutcome, checkOf}
 use Rattle.admission.specs.Recheck.{Call, recheck, inputRows, callRows, remarked, callAnswer, callMarks, CallOutcome, callOf}

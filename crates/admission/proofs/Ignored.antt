@@ -23,7 +23,7 @@ use Rattle.directory.specs.Rows.{codeSlots, specialSlot, directoryRows, signatu
 use Rattle.slots.specs.Slots.{Sides, filled, nothing, there, thing, faultOf, fault, specialRows}
 use Rattle.pages.specs.Marks as Marks
 use Rattle.pages.specs.Marks.{badRows}
-use Rattle.pages.specs.Marking.{marks-below}
+use Rattle.pages.proofs.Marking.{marks-below}
 use Rattle.admission.specs.Input.{Lent, longest, directory, limitOf, cdhash, marksOf}
 use Rattle.admission.specs.Check.{imageRows, countRows, checkRows, entryFor, checkTable, checkAnswer, checkMarks, verdictOf, CheckOutcome, checkOf}
 use Rattle.admission.specs.Ignored.{Opaque, SameRead, Alike, Ignored}

@@ -10,8 +10,8 @@ use lib.Dec.{eqb, ltb, leb}
 use lib.ListN.{length, drop}
 use borrow.Author.Tests.{eqb-true, ltb-true, ltb-false, leb-true, leb-false}
 use Rattle.pages.specs.Pages.{Fit, pageCount, pageOf, metFirst, metEnd, wanted, splice}
-use Rattle.pages.specs.Lists.{splice-length, splice-past}
-use Rattle.pages.specs.Spliced.{spliced-length, spliced-past, page-unmet, page-lent, change-page, same-pages}
+use Rattle.pages.proofs.Lists.{splice-length, splice-past}
+use Rattle.pages.proofs.Spliced.{spliced-length, spliced-past, page-unmet, page-lent, change-page, same-pages}
 use Rattle.admission.specs.Input.{withImage, pageBytesOf, limitOf}
 use Rattle.admission.specs.Recheck.{Call, recheck}
 use Rattle.admission.specs.Demand3.{Book, opened, turnedDown, meets, examine, bookAfter1, bookAfter, wholeAnswer, calls, Event, change, call, imageAfter, madeIn, LentFrom, Faithful, examines, altered, Images}

@@ -23,8 +23,8 @@ use Rattle.trustcache.specs.Launch.{launchRows}
 use Rattle.trustcache.specs.Table.{cacheRows}
 use Rattle.pages.specs.Pages.{Fit, pageCount, rangeRows}
 use Rattle.pages.specs.Marks.{markRows, badRows, judged}
-use Rattle.pages.specs.Geometry.{fit-of}
-use Rattle.pages.specs.Marking.{judged-place}
+use Rattle.pages.proofs.Pages.{fit-of}
+use Rattle.pages.proofs.Marking.{judged-place}
 use Rattle.admission.specs.Input.{Lent, withImage, longest, directory, pageBytesOf, limitOf, marksOf}
 use Rattle.admission.specs.Check.{imageRows, countRows, checkRows, entryFor, checkTable, checkAnswer, checkMarks}
 use Rattle.admission.specs.Recheck.{Call, recheck, inputRows, callRows, remarked, callAnswer, callMarks}

@@ -14,7 +14,7 @@ use Rattle.refusals.proofs.Positions.{lowest-below, none-fails}
 use Rattle.layout.specs.CodeDirectory.{nCodeSlots, codeLimit}
 use Rattle.pages.specs.Pages.{pageCount, pageOf}
 use Rattle.pages.specs.Marks.{slotAt, marksOf, differs, badRows}
-use Rattle.pages.specs.Marking.{mark-exact, mark-small, marks-length, marks-at}
+use Rattle.pages.proofs.Marking.{mark-exact, mark-small, marks-length, marks-at}
 use Rattle.directory.specs.Pages.{P, pages}
 use Rattle.directory.specs.Rows.{codeSlot, codeSlots}
 use Rattle.directory.specs.Slots.{codeSlot-part}

@@ -12,7 +12,7 @@ use Rattle.directory.specs.Pages.{P}
 use Rattle.directory.specs.Rows.{codeSlots, FieldsRead}
 use Rattle.pages.specs.Pages.{rangeRows, metFirst, metEnd}
 use Rattle.pages.specs.Marks.{marksFrom, remarked, PagesHere}
-use Rattle.pages.specs.Marking.{whole-here, whole-marks, RangeHere, cut-order, cut-within, cut-here, put-remarked}
+use Rattle.pages.proofs.Marking.{whole-here, whole-marks, RangeHere, cut-order, cut-within, cut-here, put-remarked}
 use Rattle.admission.specs.Input.{directory, pageBytesOf, limitOf, slotsOf, marksOf, ImageHere}
 
 -- a part that lies in a list of n

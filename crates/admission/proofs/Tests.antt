@@ -18,7 +18,7 @@ use Rattle.trustcache.specs.Table.{cacheRows}
 use Rattle.refusals.proofs.Joined.{goes-on}
 use Rattle.pages.specs.Pages.{rangeRows}
 use Rattle.pages.specs.Marks.{markRows}
-use Rattle.pages.specs.Tests.{range-unused}
+use Rattle.pages.proofs.Tests.{range-unused}
 use Rattle.admission.specs.Input.{Lent, longest, directory, pageBytesOf, limitOf, cdhash}
 use Rattle.admission.specs.Check.{imageRows, countRows, checkRows, entryFor, checkTested}
 use Rattle.admission.specs.Recheck.{recheck, inputRows, callRows}

@@ -14,7 +14,7 @@ ghost use Rattle.endian.specs.Numbers.{big};
 ghost use Rattle.refusals.specs.Refusals.{first, accepted};
 ghost use Rattle.slots.specs.Slots.{sides};
 ghost use Rattle.pages.specs.Pages.{rangeRows};
-ghost use Rattle.pages.specs.Marking.{RangeHere};
+ghost use Rattle.pages.specs.Marks.{RangeHere};
 ghost use Rattle.admission.specs.Input.{lent, longest, pageBytesOf, limitOf, slotsOf, cdhash, marksOf, ImageHere};
 ghost use Rattle.admission.specs.Check.{imageRows, countRows, checkTested, verdictOf, Checked};
 ghost use Rattle.admission.specs.Recheck.{recheck, callRows, remarked, Rechecked};

@@ -3,17 +3,15 @@
 use Prim.Native.Nat.{ℕ, zero, suc, _+_, _-_, _*_, _≤_, min}
 use mathlib.Core.Bool.{Bool, cond}
 use mathlib.Core.List.{List, [], _∷_, _++_}
+use mathlib.Core.Path.{_≡_}
 use lib.ListN.{length, getD, take, drop}
 use Rattle.refusals.specs.declared.Answer.{Answer}
 use Rattle.refusals.specs.Refusals.{Cond, _<?_, _≡?_, Row, over, refuse, first}
 use Rattle.digest.specs.Hash.{digest}
 use Rattle.digest.specs.Sha256.{sha256}
 use Rattle.digest.specs.Same.{same}
-use Rattle.pages.specs.Pages.{pageCount, pageStart, pageEnd, part, pageOf, metFirst, metEnd}
-
--- bytes of a slot
-abbrev pub slotWidth : ℕ
-slotWidth = 32
+use Rattle.layout.specs.CodeDirectory.{slotWidth}
+use Rattle.pages.specs.Pages.{Fit, pageCount, pageStart, pageEnd, part, pageOf, metFirst, metEnd, wanted}
 
 -- the slot of page i
 unfoldable pub slotAt : List ℕ → ℕ → List ℕ
@@ -35,14 +33,14 @@ tab i (suc n) f = f i ∷ tab (suc i) n f
 unfoldable pub marksOf : ℕ → ℕ → List ℕ → List ℕ → List ℕ
 marksOf p limit slots image = tab 0 (pageCount p limit) (λ i. markOf slots i (pageOf p limit i image))
 
--- the mark of page i, of bytes that begin where page `first` begins
+-- the mark of page i, of bytes that begin where page `from` begins
 abbrev pub markIn : ℕ → ℕ → List ℕ → ℕ → List ℕ → ℕ → ℕ
-markIn p limit slots first bytes i =
-    markOf slots i (part bytes (pageStart p i - pageStart p first) (pageEnd p limit i - pageStart p first))
+markIn p limit slots from bytes i =
+    markOf slots i (part bytes (pageStart p i - pageStart p from) (pageEnd p limit i - pageStart p from))
 
--- the marks of n pages from page `first` on, of bytes that begin where that page begins
+-- the marks of n pages from page `from` on, of bytes that begin where that page begins
 unfoldable pub marksFrom : ℕ → ℕ → List ℕ → ℕ → ℕ → List ℕ → List ℕ
-marksFrom p limit slots first n bytes = tab first n (markIn p limit slots first bytes)
+marksFrom p limit slots from n bytes = tab from n (markIn p limit slots from bytes)
 
 -- the marks with those of the pages that a range meets written anew, of bytes that begin where the first page met begins
 unfoldable pub remarked : ℕ → ℕ → List ℕ → ℕ → ℕ → List ℕ → List ℕ → List ℕ
@@ -73,15 +71,23 @@ judged marks place = first (badRows marks) (refuse 0 place)
 
 -- WHAT THE ROUTINE THAT WRITES MARKS REQUIRES
 
--- page n is there, has a slot, and lies in the bytes, which begin where page `first` begins
-pub record PageHere (p limit : ℕ) (slots : List ℕ) (first n : ℕ) (bytes : List ℕ) : Type 0 where
-  pub from : first ≤ n
+-- page n is there, has a slot, and lies in the bytes, which begin where page `from` begins
+pub record PageHere (p limit : ℕ) (slots : List ℕ) (from n : ℕ) (bytes : List ℕ) : Type 0 where
+  pub after : from ≤ n
   pub here : n + 1 ≤ pageCount p limit
   pub slot : slotWidth * (n + 1) ≤ length slots
-  pub held : pageEnd p limit n - pageStart p first ≤ length bytes
+  pub held : pageEnd p limit n - pageStart p from ≤ length bytes
 
--- n pages from page `first` on are there, have slots, and lie in the bytes
-pub record PagesHere (p limit : ℕ) (slots : List ℕ) (first n : ℕ) (bytes : List ℕ) : Type 0 where
-  pub here : first + n ≤ pageCount p limit
-  pub slotted : slotWidth * (first + n) ≤ length slots
-  pub held : min (p * (first + n)) limit - pageStart p first ≤ length bytes
+-- n pages from page `from` on are there, have slots, and lie in the bytes
+pub record PagesHere (p limit : ℕ) (slots : List ℕ) (from n : ℕ) (bytes : List ℕ) : Type 0 where
+  pub here : from + n ≤ pageCount p limit
+  pub slotted : slotWidth * (from + n) ≤ length slots
+  pub held : min (p * (from + n)) limit - pageStart p from ≤ length bytes
+
+-- a recheck's range that passes 32 and 33, with a slot and a mark for each page
+pub record RangeHere (p limit : ℕ) (slots : List ℕ) (start size : ℕ) (bytes marks : List ℕ) : Type 0 where
+  pub fits : Fit p limit
+  pub slotted : slotWidth * pageCount p limit ≤ length slots
+  pub marked : length marks ≡ pageCount p limit
+  pub below : start + size ≤ limit
+  pub exact : length bytes ≡ wanted p limit start size

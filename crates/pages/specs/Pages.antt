@@ -1,6 +1,6 @@
 -- Pages of code, and the pages that a range meets (document 01, "Pages" and tests 32 and 33). `p` is P, the bytes of a page, and `limit`
 -- the code limit. Every definition is total: n / 0 is 0.
-use Prim.Native.Nat.{ℕ, _+_, _-_, _*_, _/_, _<_, min}
+use Prim.Native.Nat.{ℕ, _+_, _-_, _*_, _/_, _^_, _<_, _≤_, min}
 use mathlib.Core.Path.{_≡_}
 use mathlib.Core.Logic.{_⊎_}
 use mathlib.Core.List.{List, [], _∷_, _++_}
@@ -10,6 +10,10 @@ use Rattle.refusals.specs.Refusals.{_<?_, _≡?_, _≢?_, pick, Row, row}
 -- P: 2 to the pageSize field, or the whole code limit where the field is 0; test 14 refuses every field but 0, 12 and 14
 unfoldable pub pageBytes : ℕ → ℕ → ℕ
 pageBytes shift limit = pick (shift ≡? 0) limit (pick (shift ≡? 12) 4096 (pick (shift ≡? 14) 16384 0))
+
+-- a page is 2 to the field
+abbrev pub PagePower : Type 0
+PagePower = (shift limit : ℕ) → (shift ≡ 12) ⊎ (shift ≡ 14) → pageBytes shift limit ≡ 2 ^ shift
 
 -- the number of pages: the limit divided by P, rounded up; 0 for the limit 0
 unfoldable pub pageCount : ℕ → ℕ → ℕ
@@ -37,6 +41,10 @@ metFirst p start size = pick (size ≡? 0) 0 (start / p)
 
 unfoldable pub metEnd : ℕ → ℕ → ℕ → ℕ
 metEnd p start size = pick (size ≡? 0) 0 ((start + (size - 1)) / p + 1)
+
+-- byte k lies in the range, and in page i
+abbrev pub Shared : ℕ → ℕ → ℕ → ℕ → ℕ → ℕ → Type 0
+Shared p limit start size i k = ((start ≤ k) × (k < start + size)) × ((p * i ≤ k) × (k < pageEnd p limit i))
 
 -- where the last page met ends; 0 where none is met
 abbrev pub metStop : ℕ → ℕ → ℕ → ℕ → ℕ

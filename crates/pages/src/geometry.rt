@@ -85,9 +85,9 @@ pub fn wanted_bytes(p: usize, limit: usize, start: usize, size: usize) -> usize
     page_end(p, limit, end - 1) - p * first
 }
 
-// Tests 32 and 33: the range of a recheck, and the length of the bytes that are lent for it.
-pub fn range_tested(p: usize, limit: usize, start: u64, length: u64, lent: usize) -> Answer
-    ensures { λ r. ⌜ r ≡ first (rangeRows p limit start length lent) accepted ⌝ }
+// Tests 32 and 33: the range of a recheck, and how many bytes are given for it.
+pub fn range_tested(p: usize, limit: usize, start: u64, size: u64, given: usize) -> Answer
+    ensures { λ r. ⌜ r ≡ first (rangeRows p limit start size given) accepted ⌝ }
 {
     if (limit as u64) < start {
         return Answer {
@@ -95,13 +95,13 @@ pub fn range_tested(p: usize, limit: usize, start: u64, length: u64, lent: usize
             place: 0,
         };
     }
-    if limit as u64 - start < length {
+    if limit as u64 - start < size {
         return Answer {
             number: 32,
             place: 0,
         };
     }
-    if lent != wanted_bytes(p, limit, start as usize, length as usize) {
+    if given != wanted_bytes(p, limit, start as usize, size as usize) {
         return Answer {
             number: 33,
             place: 0,

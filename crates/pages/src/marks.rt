@@ -7,12 +7,12 @@ ghost use lib.ListN.{length};
 ghost use Rattle.refusals.specs.Refusals.{lowest, first, accepted};
 ghost use Rattle.pages.specs.Marks.{markIn, marksFrom, neither, differs, markRows, judged, PageHere, PagesHere};
 
-// The mark of page n, of bytes that begin where page `first` begins. The page is hashed where it lies.
-fn mark_page(p: usize, limit: usize, slots: &[u8], first: usize, n: usize, bytes: &[u8]) -> u8
-    requires { ⌜ PageHere p limit (now slots) first n (now bytes) ⌝ }
-    ensures { λ r. ⌜ r ≡ markIn p limit (now (slots .entry)) first (now (bytes .entry)) n ⌝ }
+// The mark of page n, of bytes that begin where page `from` begins. The page is hashed where it lies.
+fn mark_page(p: usize, limit: usize, slots: &[u8], from: usize, n: usize, bytes: &[u8]) -> u8
+    requires { ⌜ PageHere p limit (now slots) from n (now bytes) ⌝ }
+    ensures { λ r. ⌜ r ≡ markIn p limit (now (slots .entry)) from (now (bytes .entry)) n ⌝ }
 {
-    let base = p * first;
+    let base = p * from;
     let start = p * n - base;
     let end = page_end(p, limit, n) - base;
     let slot = CodeDirectory::SLOT * n;
@@ -24,22 +24,22 @@ fn mark_page(p: usize, limit: usize, slots: &[u8], first: usize, n: usize, bytes
     }
 }
 
-// Hashes the pages from `first` on, one for each mark, and writes their marks. The bytes begin where page `first` begins: the image
+// Hashes the pages from `from` on, one for each mark, and writes their marks. The bytes begin where page `from` begins: the image
 // itself for all pages, or what is lent for the pages that a range meets.
 pub fn mark_pages(
     p: usize,
     limit: usize,
     slots: &[u8],
-    first: usize,
+    from: usize,
     bytes: &[u8],
     marks: &mut [u8],
 )
-    requires { ⌜ PagesHere p limit (now slots) first (length (now marks)) (now bytes) ⌝ }
-    ensures { λ r. ⌜ now (marks .exit) ≡ marksFrom p limit (now (slots .entry)) first (length (now (marks .entry))) (now (bytes .entry)) ⌝ }
+    requires { ⌜ PagesHere p limit (now slots) from (length (now marks)) (now bytes) ⌝ }
+    ensures { λ r. ⌜ now (marks .exit) ≡ marksFrom p limit (now (slots .entry)) from (length (now (marks .entry))) (now (bytes .entry)) ⌝ }
 {
     let mut i = 0;
     while i < marks.len() {
-        let m = mark_page(p, limit, slots, first, first + i, bytes);
+        let m = mark_page(p, limit, slots, from, from + i, bytes);
         marks[i] = m;
         i += 1;
     }

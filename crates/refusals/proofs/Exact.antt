@@ -3,11 +3,11 @@
 use Prim.Native.Nat.{ℕ}
 use mathlib.Core.List.{List, [], _∷_}
 use mathlib.Core.Bool.{Bool, true, false, not, cond, _&&_}
-use mathlib.Core.Path.{_≡_, refl, sym, ap, subst}
+use mathlib.Core.Path.{_≡_, refl, sym, ap, subst, _∙_}
 use lib.Dec.{T, eqb}
 use borrow.Author.Tests.{eqb-true, eqb-false, eq-eqb}
 use Rattle.refusals.specs.declared.Answer.{Answer}
-use Rattle.refusals.specs.Refusals.{Cond, holds, Says, Row, row, refuse, first, either, Decides, Passes}
+use Rattle.refusals.specs.Refusals.{Cond, holds, Says, Row, row, refuse, first, either, Decides, Passes, Exact}
 use Rattle.refusals.proofs.Conditions.{says, said}
 
 by-number : (c : Cond) (m q n p : ℕ) (rest : Answer) (D : Type 0) (b : Bool) → b ≡ eqb m n → (D → refuse n p ≡ rest)
@@ -89,3 +89,15 @@ decided (row m c q ∷ rows) done n p d ne e = at-row (decided rows done n p (an
     at-row f false eb true et e =
         absurd (unused rows done n p (subst (Unused rows) (eqb-true m n (sym et)) (T-and (unusedIn rows m) (distinctIn rows) d)) ne e)
     at-row f false eb false et e = (said false c eb, f e)
+
+-- where no row holds, the number is that of the check's own answer
+pub passes-zero : (rows : List Row) (done : Answer) → done .number ≡ 0 → Passes rows → first rows done .number ≡ 0
+passes-zero rows done z p = sym (ap (λ (a : Answer). a .number) (passes rows done p)) ∙ z
+
+-- so a table whose numbers are distinct and not 0, and whose own answer has number 0, is exact
+pub exact : (rows : List Row) (done : Answer) → Unused rows 0 → Distinct rows → done .number ≡ 0 → Exact rows done
+exact rows done unused distinct z =
+    record {
+      refuses = λ n p ne. ((λ e. decided rows done n p distinct (λ q. ne (sym q ∙ z)) (sym e)), λ d. sym (decides rows done n p d));
+      accepts = (passed rows done 0 unused, passes-zero rows done z);
+    }

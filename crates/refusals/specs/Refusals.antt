@@ -115,6 +115,11 @@ abbrev pub Passes : List Row → Type 0
 Passes [] = Unit
 Passes (row m c q ∷ rows) = Says false c × Passes rows
 
+-- the answer is n at p exactly when row n is the first to hold, with place p; and of number 0 exactly when none holds
+pub record Exact (rows : List Row) (done : Answer) : Type 0 where
+  pub refuses : (n p : ℕ) → (n ≡ 0 → ⊥) → (first rows done ≡ refuse n p) ↔ Decides rows n p
+  pub accepts : (first rows done .number ≡ 0) ↔ Passes rows
+
 -- WHAT A TEST OVER POSITIONS SAYS
 
 -- f holds at p, below b, and at no lower position

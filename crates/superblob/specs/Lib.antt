@@ -1,4 +1,3 @@
 pub mod Rows
-pub mod Exact
 pub mod Formed
-pub mod Blobs
+pub mod Lookup

@@ -6,26 +6,40 @@ use mathlib.Core.Path.{_≡_}
 use lib.ListN.{length, take, drop}
 use Rattle.refusals.specs.Ranges.{Range, range, lookup}
 use Rattle.refusals.specs.Refusals.{_<?_, _≡?_, _≢?_, _and_, _or_, Cond, pick, lowest, Row, row, over, first, accepted}
-use Rattle.refusals.proofs.Exact.{Unused, Distinct}
-use Rattle.layout.specs.SuperBlob.{magic, superLength, count, indexEnd, typeAt, offsetAt, blobMagic, blobLength}
+use Rattle.layout.specs.SuperBlob.{superMagic, superHead, blobHead, requirementsMagic, entitlementsMagic, derEntitlementsMagic, launchConstraintMagic, blobWrapperMagic, magic, superLength, count, indexEnd, typeAt, offsetAt, blobMagic, blobLength}
+use Rattle.layout.specs.CodeDirectory.{directoryMagic}
 use Rattle.superblob.specs.declared.Span.{Span}
 use Rattle.superblob.specs.declared.Test.{Test}
 use Rattle.superblob.specs.declared.Test.the-variants as test
 use Rattle.superblob.specs.declared.Clash.{Clash}
 use Rattle.superblob.specs.declared.Clash.the-variants as clash
 
+-- LIMITS
+
+-- bytes of a signature
+abbrev pub mostSignature : ℕ
+mostSignature = 4194304
+
+-- bytes of a side file
+abbrev pub mostSide : ℕ
+mostSide = 4194304
+
+-- blobs of a SuperBlob
+abbrev pub mostBlobs : ℕ
+mostBlobs = 64
+
 -- TYPES
 
 -- the known slot types, from and to, with the magic of each
 unfoldable pub slotMagics : List Range
 slotMagics =
-    range 0 0 0xFADE0C02
-    ∷ range 0x1000 0x1004 0xFADE0C02
-    ∷ range 2 2 0xFADE0C01
-    ∷ range 5 5 0xFADE7171
-    ∷ range 7 7 0xFADE7172
-    ∷ range 8 11 0xFADE8181
-    ∷ range 0x10000 0x10000 0xFADE0B01
+    range 0 0 directoryMagic
+    ∷ range 0x1000 0x1004 directoryMagic
+    ∷ range 2 2 requirementsMagic
+    ∷ range 5 5 entitlementsMagic
+    ∷ range 7 7 derEntitlementsMagic
+    ∷ range 8 11 launchConstraintMagic
+    ∷ range 0x10000 0x10000 blobWrapperMagic
     ∷ []
 
 -- the magic that a slot type asks for; 0 where the type is not known
@@ -48,8 +62,8 @@ repeated s i = lowest (sameType s i) i <? i
 unfoldable pub outside : List ℕ → ℕ → Cond
 outside s i =
     offsetAt s i <? indexEnd s or
-    superLength s <? offsetAt s i + 8 or
-    blobLength s i <? 8 or
+    superLength s <? offsetAt s i + blobHead or
+    blobLength s i <? blobHead or
     superLength s <? offsetAt s i + blobLength s i
 
 unfoldable pub wrongMagic : List ℕ → ℕ → Cond
@@ -67,9 +81,9 @@ overlaps s i = lowest (shared s i) i <? i
 
 unfoldable pub headRows : ℕ → List ℕ → List Row
 headRows side s =
-    row 1 (length s <? 12 or 4194304 <? length s or 4194304 <? side) 0
-    ∷ row 2 (magic s ≢? 0xFADE0CC0) 0
-    ∷ row 3 (count s ≡? 0 or 64 <? count s) 0
+    row 1 (length s <? superHead or mostSignature <? length s or mostSide <? side) 0
+    ∷ row 2 (magic s ≢? superMagic) 0
+    ∷ row 3 (count s ≡? 0 or mostBlobs <? count s) 0
     ∷ row 4 (superLength s <? indexEnd s or length s <? superLength s) 0
     ∷ []
 
@@ -94,9 +108,21 @@ ofType s t i = typeAt s i ≡? t
 unfoldable pub position : List ℕ → ℕ → ℕ
 position s t = lowest (ofType s t) (count s)
 
+-- the index has the type
+unfoldable pub has : List ℕ → ℕ → Cond
+has s t = position s t <? count s
+
+-- the blob at position i, its head included, as a part of the signature
+unfoldable pub blobAt : List ℕ → ℕ → List ℕ
+blobAt s i = take (blobLength s i) (drop (offsetAt s i) s)
+
+-- the blob at a type's position: the blob of that type, where tests 1 to 9 pass and the index has it
+unfoldable pub blobOf : List ℕ → ℕ → List ℕ
+blobOf s t = blobAt s (position s t)
+
 -- tests 1 to 9 pass, and the index has the type
 unfoldable pub present : List ℕ → ℕ → Cond
-present s t = first (rows 0 s) accepted .number ≡? 0 and position s t <? count s
+present s t = first (rows 0 s) accepted .number ≡? 0 and has s t
 
 -- where the blob of a type starts and ends; 0 and 0 where there is none
 unfoldable pub blobStart : List ℕ → ℕ → ℕ
@@ -105,7 +131,7 @@ blobStart s t = pick (present s t) (offsetAt s (position s t)) 0
 unfoldable pub blobEnd : List ℕ → ℕ → ℕ
 blobEnd s t = pick (present s t) (offsetAt s (position s t) + blobLength s (position s t)) 0
 
--- the blob of a type, a part of the signature; empty where there is none
+-- what a lookup hands back: the blob of a type, a part of the signature; empty where there is none
 unfoldable pub blob : List ℕ → ℕ → List ℕ
 blob s t = take (blobEnd s t - blobStart s t) (drop (blobStart s t) s)
 
@@ -121,7 +147,7 @@ failing test.Apart s = overlaps s
 
 -- what two positions may not share
 abbrev pub clashing : Clash → List ℕ → ℕ → ℕ → Cond
-clashing clash.Kind s = sameType s
+clashing clash.SlotType s = sameType s
 clashing clash.Bytes s = shared s
 
 pub record Found (s : List ℕ) (t : ℕ) (r : Span) : Type 0 where
@@ -129,17 +155,3 @@ pub record Found (s : List ℕ) (t : ℕ) (r : Span) : Type 0 where
   pub end-is : r .end ≡ blobEnd s t
   pub ordered : r .start ≤ r .end
   pub within : r .end ≤ length s
-
--- LAWS OF THE TABLE
-
-pub headRows-unused : (side : ℕ) (s : List ℕ) → Unused (headRows side s) 0
-unfolding headRows
-headRows-unused side s = tt
-
-pub rows-unused : (side : ℕ) (s : List ℕ) → Unused (rows side s) 0
-unfolding rows headRows indexRows
-rows-unused side s = tt
-
-pub rows-distinct : (side : ℕ) (s : List ℕ) → Distinct (rows side s)
-unfolding rows headRows indexRows
-rows-distinct side s = tt

@@ -8,16 +8,20 @@ ghost use mathlib.Core.Path.{_≡_};
 ghost use Prim.Native.Nat.{_<_};
 ghost use Rattle.refusals.specs.Refusals.{holds, lowest, first, accepted, refuse};
 ghost use Rattle.layout.specs.SuperBlob.{indexEnd, typeAt, offsetAt, blobMagic, blobLength, count};
-ghost use Rattle.superblob.specs.Rows.{magicOf, outside, shared, clashing, failing, headRows, indexRows, rows, position, Found, blob};
+ghost use Rattle.superblob.specs.Rows.{magicOf, outside, shared, clashing, failing, headRows, indexRows, rows, position, has, blobOf, Found, blob};
 use layout::directory::CodeDirectory;
+use layout::parts::part;
 use layout::superblob::Blob;
 use layout::superblob::BlobIndex;
 use layout::superblob::SuperBlob;
 use refusals::Answer;
 use refusals::answers::answer;
 
-// The longest signature that is read, and the longest side file.
-const MOST_BYTES: usize = 4194304;
+// The longest signature that is read.
+const MOST_SIGNATURE: usize = 4194304;
+
+// The longest side file that is read.
+const MOST_SIDE: usize = 4194304;
 
 // The most blobs of a SuperBlob.
 const MOST_BLOBS: usize = 64;
@@ -40,13 +44,13 @@ pub struct Span {
 }
 
 // Where the blob of a type lies; 0 and 0 where tests 1 to 9 do not pass or the index has no such type.
-pub fn find_span(sig: &[u8], kind: u32) -> Span
-    ensures { λ r. ⌜ Found (now (sig .entry)) kind r ⌝ }
+pub fn find_span(sig: &[u8], slot_type: u32) -> Span
+    ensures { λ r. ⌜ Found (now (sig .entry)) «slot_type» r ⌝ }
 {
     if tested(sig, 0).number != 0 {
         return Span { start: 0, end: 0 };
     }
-    let i = position_of(sig, kind as usize);
+    let i = position_of(sig, slot_type as usize);
     if SuperBlob::read(sig).count <= i {
         return Span { start: 0, end: 0 };
     }
@@ -58,13 +62,29 @@ pub fn find_span(sig: &[u8], kind: u32) -> Span
 }
 
 // The blob of a type, its head included; empty where tests 1 to 9 do not pass or the index has no such type.
-pub fn find<'a>(sig: &'a [u8], kind: u32) -> &'a [u8]
-    ensures { λ r. ⌜ now r ≡ blob (now (sig .entry)) kind ⌝ }
+pub fn find<'a>(sig: &'a [u8], slot_type: u32) -> &'a [u8]
+    ensures { λ r. ⌜ now r ≡ blob (now (sig .entry)) «slot_type» ⌝ }
 {
-    let span = find_span(sig, kind);
+    let span = find_span(sig, slot_type);
     let start = span.start;
     let end = span.end;
     &sig[start..end]
+}
+
+// The index has the type.
+pub fn has(sig: &[u8], slot_type: u32) -> bool
+    ensures { λ r. ⌜ r ≡ holds (has (now (sig .entry)) «slot_type») ⌝ }
+{
+    position_of(sig, slot_type as usize) < SuperBlob::read(sig).count
+}
+
+// The blob at a type's position of the index, its head included: for callers behind test 9, which has the SuperBlob well formed. Of other bytes
+// it is what the definition makes of them.
+pub fn blob_of<'a>(sig: &'a [u8], slot_type: u32) -> &'a [u8]
+    ensures { λ r. ⌜ now r ≡ blobOf (now (sig .entry)) «slot_type» ⌝ }
+{
+    let i = position_of(sig, slot_type as usize);
+    part(sig, offset_at(sig, i), length_at(sig, i))
 }
 
 // Tests 1 to 4: the head.
@@ -74,10 +94,10 @@ fn head_tested(sig: &[u8], side: usize) -> Answer
     if sig.len() < SuperBlob::HEAD {
         return answer(1, 0);
     }
-    if MOST_BYTES < sig.len() {
+    if MOST_SIGNATURE < sig.len() {
         return answer(1, 0);
     }
-    if MOST_BYTES < side {
+    if MOST_SIDE < side {
         return answer(1, 0);
     }
     let head = SuperBlob::read(sig);
@@ -155,17 +175,17 @@ fn fails_at(sig: &[u8], i: usize, test: Test) -> bool
     ensures { λ r. ⌜ r ≡ holds (failing test (now (sig .entry)) i) ⌝ }
 {
     match test {
-        Test::Known => magic_of(kind_at(sig, i)) == 0,
-        Test::Distinct => first_clash(sig, i, Clash::Kind) < i,
+        Test::Known => magic_of(type_at(sig, i)) == 0,
+        Test::Distinct => first_clash(sig, i, Clash::SlotType) < i,
         Test::Inside => outside_at(sig, i),
-        Test::Magic => magic_at(sig, i) != magic_of(kind_at(sig, i)),
+        Test::Magic => magic_at(sig, i) != magic_of(type_at(sig, i)),
         Test::Apart => first_clash(sig, i, Clash::Bytes) < i,
     }
 }
 
 // What two positions of the index may not share.
 enum Clash {
-    Kind,
+    SlotType,
     Bytes,
 }
 
@@ -187,7 +207,7 @@ fn clashes(sig: &[u8], i: usize, j: usize, clash: Clash) -> bool
     ensures { λ r. ⌜ r ≡ holds (clashing clash (now (sig .entry)) i j) ⌝ }
 {
     match clash {
-        Clash::Kind => kind_at(sig, j) == kind_at(sig, i),
+        Clash::SlotType => type_at(sig, j) == type_at(sig, i),
         Clash::Bytes => shares_byte(sig, i, j),
     }
 }
@@ -230,13 +250,13 @@ fn outside_at(sig: &[u8], i: usize) -> bool
 }
 
 // The lowest position that has the type; the count where there is none.
-fn position_of(sig: &[u8], kind: usize) -> usize
-    ensures { λ r. ⌜ r ≡ position (now (sig .entry)) kind ⌝ }
+fn position_of(sig: &[u8], slot_type: usize) -> usize
+    ensures { λ r. ⌜ r ≡ position (now (sig .entry)) «slot_type» ⌝ }
 {
     let n = SuperBlob::read(sig).count;
     let mut i = 0;
     while i < n {
-        if kind_at(sig, i) == kind {
+        if type_at(sig, i) == slot_type {
             return i;
         }
         i += 1;
@@ -245,10 +265,10 @@ fn position_of(sig: &[u8], kind: usize) -> usize
 }
 
 // The magic that a slot type asks for; 0 where the type is not known.
-fn magic_of(kind: usize) -> usize
-    ensures { λ r. ⌜ r ≡ magicOf kind ⌝ }
+fn magic_of(slot_type: usize) -> usize
+    ensures { λ r. ⌜ r ≡ magicOf «slot_type» ⌝ }
 {
-    match kind {
+    match slot_type {
         0 | 0x1000..=0x1004 => CodeDirectory::MAGIC,
         2 => Blob::REQUIREMENTS,
         5 => Blob::ENTITLEMENTS,
@@ -266,10 +286,10 @@ fn index_end(sig: &[u8]) -> usize
     SuperBlob::HEAD + SuperBlob::ENTRY * SuperBlob::read(sig).count
 }
 
-fn kind_at(sig: &[u8], i: usize) -> usize
+fn type_at(sig: &[u8], i: usize) -> usize
     ensures { λ r. ⌜ r ≡ typeAt (now (sig .entry)) i ⌝ }
 {
-    BlobIndex::read(sig, i).kind
+    BlobIndex::read(sig, i).slot_type
 }
 
 fn offset_at(sig: &[u8], i: usize) -> usize

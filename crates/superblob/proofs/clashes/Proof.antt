@@ -8,11 +8,11 @@ use Rattle.superblob.proofs.clashes.Tie as tie
 enum-told : tie.Need-enum-told
 enum-told c = search needs
 
-kind-at-requires : tie.Need-kind-at-requires
-kind-at-requires c κs = search needs
+type-at-requires : tie.Need-type-at-requires
+type-at-requires c κs = search needs
 
-kind-at-requires-2 : tie.Need-kind-at-requires-2
-kind-at-requires-2 c κs = search needs
+type-at-requires-2 : tie.Need-type-at-requires-2
+type-at-requires-2 c κs = search needs
 
 enum-told-2 : tie.Need-enum-told-2
 enum-told-2 c = search needs
@@ -33,8 +33,8 @@ clashes-spec =
     tie.close
     (tie.spec
     enum-told
-    kind-at-requires
-    kind-at-requires-2
+    type-at-requires
+    type-at-requires-2
     enum-told-2
     shares-byte-requires
     returns

@@ -8,8 +8,8 @@ use Rattle.superblob.proofs.fails_at.Tie as tie
 enum-told : tie.Need-enum-told
 enum-told c = search needs
 
-kind-at-requires : tie.Need-kind-at-requires
-kind-at-requires c κs = search needs
+type-at-requires : tie.Need-type-at-requires
+type-at-requires c κs = search needs
 
 magic-of-requires : tie.Need-magic-of-requires
 magic-of-requires c κs = search needs
@@ -32,8 +32,8 @@ enum-told-4 c = search needs
 magic-at-requires : tie.Need-magic-at-requires
 magic-at-requires c κs = search needs
 
-kind-at-requires-2 : tie.Need-kind-at-requires-2
-kind-at-requires-2 c κs = search needs
+type-at-requires-2 : tie.Need-type-at-requires-2
+type-at-requires-2 c κs = search needs
 
 magic-of-requires-2 : tie.Need-magic-of-requires-2
 magic-of-requires-2 c κs = search needs
@@ -69,7 +69,7 @@ fails-at-spec =
     tie.close
     (tie.spec
     enum-told
-    kind-at-requires
+    type-at-requires
     magic-of-requires
     enum-told-2
     first-clash-requires
@@ -77,7 +77,7 @@ fails-at-spec =
     outside-at-requires
     enum-told-4
     magic-at-requires
-    kind-at-requires-2
+    type-at-requires-2
     magic-of-requires-2
     enum-told-5
     first-clash-requires-2

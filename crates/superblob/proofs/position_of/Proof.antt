@@ -13,10 +13,10 @@ use Rattle.superblob.proofs.position_of.Statement.{statement}
 use Rattle.superblob.proofs.position_of.Tie as tie
 
 abbrev Inv-loop : tie.InvT-loop
-Inv-loop sig kind n i₀ i = (i ≤ n) × (n ≡ count sig) × (lowest (ofType sig kind) i ≡ i)
+Inv-loop sig slot-type n i₀ i = (i ≤ n) × (n ≡ count sig) × (lowest (ofType sig slot-type) i ≡ i)
 
 abbrev μ-loop : tie.MeasureT-loop
-μ-loop sig kind n i₀ i = n - i
+μ-loop sig slot-type n i₀ i = n - i
 
 read-requires : tie.Need-read-requires Inv-loop μ-loop
 read-requires c κs = search needs
@@ -24,8 +24,8 @@ read-requires c κs = search needs
 loop-holds : tie.Need-loop-holds Inv-loop μ-loop
 loop-holds c = (omega arith, omega arith, lowest-none _)
 
-kind-at-requires : tie.Need-kind-at-requires Inv-loop μ-loop
-kind-at-requires c κs = search needs
+type-at-requires : tie.Need-type-at-requires Inv-loop μ-loop
+type-at-requires c κs = search needs
 
 returns : tie.Need-returns Inv-loop μ-loop
 unfolding position ofType
@@ -53,7 +53,7 @@ position-of-spec =
     μ-loop
     read-requires
     loop-holds
-    kind-at-requires
+    type-at-requires
     returns
     add-i
     loop-less

@@ -1,7 +1,8 @@
 -- Tests 1 to 4, and where they pass 5 to 9.
 use native.Mathlib.Omega.{arith}
 use Rattle.refusals.proofs.Joined.{stops, goes}
-use Rattle.superblob.specs.Rows.{headRows, indexRows, rows, headRows-unused}
+use Rattle.superblob.specs.Rows.{headRows, indexRows, rows}
+use Rattle.superblob.proofs.Numbers.{headRows-unused}
 use borrow.Author.Needs.{needs}
 use Rattle.superblob.proofs.tested.Statement.{statement}
 use Rattle.superblob.proofs.tested.Tie as tie

@@ -3,7 +3,7 @@ use native.Mathlib.Omega.{arith}
 use Prim.Native.Nat.{_+_, _-_}
 use mathlib.Core.Path.{sym}
 use native.Mathlib.Nat.{div-le-self}
-use Rattle.pages.specs.Geometry.{end-empty, end-zero, range-end}
+use Rattle.pages.proofs.Pages.{end-empty, end-zero, range-end}
 use borrow.Author.Needs.{needs}
 use Rattle.pages.proofs.geometry.end_met.Statement.{statement}
 use Rattle.pages.proofs.geometry.end_met.Tie as tie

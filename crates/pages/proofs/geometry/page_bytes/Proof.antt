@@ -1,6 +1,6 @@
 -- Each arm of the match is its own case of the definition.
 use native.Mathlib.Omega.{arith}
-use Rattle.pages.specs.Geometry.{whole-bytes, small-bytes, large-bytes, other-bytes}
+use Rattle.pages.proofs.Pages.{whole-bytes, small-bytes, large-bytes, other-bytes}
 use Rattle.pages.proofs.geometry.page_bytes.Statement.{statement}
 use Rattle.pages.proofs.geometry.page_bytes.Tie as tie
 

@@ -2,7 +2,7 @@
 use native.Mathlib.Omega.{arith}
 use Prim.Native.Nat.{_-_}
 use native.Mathlib.Nat.{div-le-self}
-use Rattle.pages.specs.Geometry.{count-zero, count-none, count-pos}
+use Rattle.pages.proofs.Pages.{count-zero, count-none, count-pos}
 use borrow.Author.Needs.{needs}
 use Rattle.pages.proofs.geometry.page_count.Statement.{statement}
 use Rattle.pages.proofs.geometry.page_count.Tie as tie

@@ -1,6 +1,6 @@
 -- The last page met starts below the limit, and ends where the pages met end.
 use native.Mathlib.Omega.{arith}
-use Rattle.pages.specs.Geometry.{wanted-none, Ranged, ranged}
+use Rattle.pages.proofs.Pages.{wanted-none, Ranged, ranged}
 use borrow.Author.Needs.{needs}
 use Rattle.pages.proofs.geometry.wanted_bytes.Statement.{statement}
 use Rattle.pages.proofs.geometry.wanted_bytes.Tie as tie

@@ -2,16 +2,16 @@
 use native.Mathlib.Omega.{arith}
 use Prim.Native.Nat.{_-_, _*_}
 use Rattle.pages.specs.Pages.{pageEnd}
-use Rattle.pages.specs.Geometry.{count-of, Within, within}
-use Rattle.pages.specs.Marking.{cut-mark}
+use Rattle.pages.proofs.Pages.{count-of, Within, within}
+use Rattle.pages.proofs.Marking.{cut-mark}
 use borrow.Author.Needs.{needs}
 use Rattle.pages.proofs.marks.mark_page.Statement.{statement}
 use Rattle.pages.proofs.marks.mark_page.Tie as tie
 
-inside : (c : tie.After-shared-slice-known2) → Within (c .before .before .args .p) (c .before .before .args .limit) (c .before .before .args .first) (c .before .before .args .n)
+inside : (c : tie.After-shared-slice-known2) → Within (c .before .before .args .p) (c .before .before .args .limit) (c .before .before .args .from) (c .before .before .args .n)
 inside c =
     let b = c .before .before in
-    within _ _ _ _ (b .pre .from) (count-of _ _ _ (omega (arith, b .pre .here)))
+    within _ _ _ _ (b .pre .after) (count-of _ _ _ (omega (arith, b .pre .here)))
 
 mul-base : tie.Need-mul-base
 mul-base c = let f = inside c in omega arith
@@ -59,14 +59,14 @@ returns : tie.Need-returns
 returns c =
     let b = c .before .before .before .before in
     let a = b .before .before .before .args in
-    cut-mark _ _ _ _ (b .page-end .result - a .p * a .first) (pageEnd (a .p) (a .limit) (a .n) - a .p * a .first) _ _
+    cut-mark _ _ _ _ (b .page-end .result - a .p * a .from) (pageEnd (a .p) (a .limit) (a .n) - a .p * a .from) _ _
     (c .before .agrees .ensures) (omega arith) (rw (c .if1 .taken))
 
 returns-2 : tie.Need-returns-2
 returns-2 c =
     let b = c .before .before .before .before in
     let a = b .before .before .before .args in
-    cut-mark _ _ _ _ (b .page-end .result - a .p * a .first) (pageEnd (a .p) (a .limit) (a .n) - a .p * a .first) _ _
+    cut-mark _ _ _ _ (b .page-end .result - a .p * a .from) (pageEnd (a .p) (a .limit) (a .n) - a .p * a .from) _ _
     (c .before .agrees .ensures) (omega arith) (rw (c .if1 .left))
 
 pub mark-page-spec : {M : Type 1} → statement M

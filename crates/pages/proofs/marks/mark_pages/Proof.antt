@@ -1,4 +1,4 @@
--- The first i marks are those of the pages from `first` on, and the others are as they were.
+-- The first i marks are those of the pages from `from` on, and the others are as they were.
 use native.Mathlib.Omega.{arith}
 use Prim.Native.Nat.{_-_, _≤_}
 use mathlib.Core.Path.{_≡_, refl, ap, _∙_}
@@ -7,16 +7,16 @@ use Prim.Native.Nat.{ℕ}
 use denote.Ref.{now}
 use lib.ListN.{length, drop, set, length-set}
 use Rattle.pages.specs.Marks.{markIn, tab, marksFrom}
-use Rattle.pages.specs.Lists.{tab-none, tab-more, tab-all}
-use Rattle.pages.specs.Marking.{page-of}
+use Rattle.pages.proofs.Lists.{tab-none, tab-more, tab-all}
+use Rattle.pages.proofs.Marking.{page-of}
 use Rattle.pages.proofs.marks.mark_pages.Statement.{statement}
 use Rattle.pages.proofs.marks.mark_pages.Tie as tie
 
 abbrev Inv-loop : tie.InvT-loop
-Inv-loop p limit slots first bytes marks₀ i₀ marks i = (i ≤ length marks₀) × ((length marks ≡ length marks₀) × (marks ≡ tab first i (markIn p limit slots first bytes) ++ drop i marks₀))
+Inv-loop p limit slots from bytes marks₀ i₀ marks i = (i ≤ length marks₀) × ((length marks ≡ length marks₀) × (marks ≡ tab from i (markIn p limit slots from bytes) ++ drop i marks₀))
 
 abbrev μ-loop : tie.MeasureT-loop
-μ-loop p limit slots first bytes marks₀ i₀ marks i = length marks₀ - i
+μ-loop p limit slots from bytes marks₀ i₀ marks i = length marks₀ - i
 
 loop-holds : tie.Need-loop-holds Inv-loop μ-loop
 loop-holds c = (omega arith, (refl, tab-none _ _ _))

@@ -12,8 +12,8 @@ use lib.ListN.{length, getD, drop}
 use lib.Seq.{ext-getD, getD-drop}
 use Rattle.pages.specs.Pages.{Fit, pageCount, pageEnd, part, pageOf, metFirst, metEnd, metStop, wanted, splice}
 use Rattle.pages.specs.Marks.{markOf, marksOf, marksFrom, remarked}
-use Rattle.pages.specs.Geometry.{fit-pos, of-count, first-below, end-above, met-le, met-count, begin-stop, page-before, page-inside, page-after}
-use Rattle.pages.specs.Lists.{part-at, part-part, splice-none, splice-length, splice-before, splice-inside, splice-after, splice-past, tab-splice}
+use Rattle.pages.proofs.Pages.{fit-pos, of-count, first-below, end-above, met-le, met-count, begin-stop, page-before, page-inside, page-after}
+use Rattle.pages.proofs.Lists.{part-at, part-part, splice-none, splice-length, splice-before, splice-inside, splice-after, splice-past, tab-splice}
 
 -- A RECHECK'S LENT BYTES: of a range below the limit, and as long as the pages met
 module _ (p limit : ℕ) (image : List ℕ) (start size : ℕ) (bytes : List ℕ)

@@ -18,33 +18,10 @@ pub range-unused : (p limit start size n : ℕ) → Unused (rangeRows p limit st
 unfolding rangeRows
 range-unused p limit start size n = tt
 
-pub range-distinct : (p limit start size n : ℕ) → Distinct (rangeRows p limit start size n)
-unfolding rangeRows
-range-distinct p limit start size n = tt
-
--- a range passes exactly when it lies below the limit and is lent the bytes of the pages met
-pub range-passes : (p limit start size n : ℕ) → start + size ≤ limit → n ≡ wanted p limit start size → Passes (rangeRows p limit start size n)
-unfolding rangeRows
-range-passes p limit start size n h e = (h, (e, tt))
-
+-- a range that passes lies below the limit and is lent the bytes of the pages met
 pub range-passed : (p limit start size n : ℕ) → Passes (rangeRows p limit start size n) → (start + size ≤ limit) × (n ≡ wanted p limit start size)
 unfolding rangeRows
 range-passed p limit start size n h = (h .0, h .1 .0)
-
--- THE MARKS, 34
-
-pub marks-unused : (marks : List ℕ) → Unused (markRows marks) 0
-unfolding markRows
-marks-unused marks = tt
-
--- the marks pass exactly when each is 0 or 1
-pub marks-passes : (marks : List ℕ) → ((k : ℕ) → k < length marks → getD marks k 0 ≤ 1) → Passes (markRows marks)
-unfolding markRows neither
-marks-passes marks h = let q = none-fails (neither marks) (length marks) h in (omega arith, tt)
-
-pub marks-passed : (marks : List ℕ) → Passes (markRows marks) → (k : ℕ) → k < length marks → getD marks k 0 ≤ 1
-unfolding markRows neither
-marks-passed marks h k l = said false (neither marks k) (lowest-below (neither marks) (length marks) (h .0) k l)
 
 -- THE ANSWER, 31
 

@@ -10,7 +10,7 @@ use lib.Dec.{eqb}
 use borrow.Author.Tests.{eqb-true, eqb-false}
 use Rattle.refusals.specs.Refusals.{_≡?_}
 use Rattle.refusals.proofs.Conditions.{pick-yes, pick-no}
-use Rattle.pages.specs.Pages.{Fit, pageBytes, pageCount, pageEnd, metFirst, metEnd, metStop, wanted}
+use Rattle.pages.specs.Pages.{Fit, pageBytes, PagePower, pageCount, pageEnd, metFirst, metEnd, metStop, wanted, Shared}
 
 -- THE PAGE SIZE
 
@@ -30,8 +30,7 @@ pub other-bytes : (shift limit : ℕ) → (shift ≡ 0 → ⊥) → (shift ≡ 1
 unfolding pageBytes
 other-bytes shift limit a b c = pick-no _ _ _ _ a (pick-no _ _ _ _ b (pick-no _ _ _ _ c refl))
 
--- a page is 2 to the field
-pub pageBytes-power : (shift limit : ℕ) → (shift ≡ 12) ⊎ (shift ≡ 14) → pageBytes shift limit ≡ 2 ^ shift
+pub pageBytes-power : PagePower
 pageBytes-power shift limit (inl e) = sym (small-bytes shift limit e) ∙ sym (ap (λ (n : ℕ). 2 ^ n) e)
 pageBytes-power shift limit (inr e) = sym (large-bytes shift limit e) ∙ sym (ap (λ (n : ℕ). 2 ^ n) e)
 
@@ -208,10 +207,6 @@ within p limit first n h u =
       runs = le-min (mul-le-mul-left p (omega arith)) (omega arith);
       ends = min-le-right (p * (n + 1)) limit;
     }
-
--- byte k lies in the range, and in page i
-abbrev pub Shared : ℕ → ℕ → ℕ → ℕ → ℕ → ℕ → Type 0
-Shared p limit start size i k = ((start ≤ k) × (k < start + size)) × ((p * i ≤ k) × (k < pageEnd p limit i))
 
 -- the pages from metFirst to before metEnd are just those that share a byte with the range
 pub meets-exactly : (p limit start size i : ℕ) → Fit p limit → start + size ≤ limit → i < pageCount p limit

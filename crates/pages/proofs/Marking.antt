@@ -14,10 +14,11 @@ use Rattle.refusals.proofs.Positions.{none-fails}
 use Rattle.digest.specs.Hash.{digest}
 use Rattle.digest.specs.Sha256.{sha256}
 use Rattle.digest.specs.Same.{same, same-equal, equal-same}
+use Rattle.layout.specs.CodeDirectory.{slotWidth}
 use Rattle.pages.specs.Pages.{Fit, pageCount, pageEnd, part, pageOf, metFirst, metEnd, wanted}
-use Rattle.pages.specs.Marks.{slotWidth, slotAt, agrees, markOf, marksOf, markIn, marksFrom, remarked, neither, differs, markRows, badRows, judged, PageHere, PagesHere}
-use Rattle.pages.specs.Geometry.{met-le, met-count}
-use Rattle.pages.specs.Lists.{part-below, tab-length, tab-at, tab-same}
+use Rattle.pages.specs.Marks.{slotAt, agrees, markOf, marksOf, markIn, marksFrom, remarked, neither, differs, markRows, badRows, judged, PageHere, PagesHere, RangeHere}
+use Rattle.pages.proofs.Pages.{met-le, met-count}
+use Rattle.pages.proofs.Lists.{part-below, tab-length, tab-at, tab-same}
 
 -- WHAT A MARK SAYS
 
@@ -142,7 +143,7 @@ pub page-of : (p limit : ℕ) (slots : List ℕ) (first n : ℕ) (bytes : List �
     → PageHere p limit slots first (first + i) bytes
 page-of p limit slots first n bytes i h u =
     record {
-      from = omega arith;
+      after = omega arith;
       here = omega arith;
       slot = omega arith;
       held = omega (arith, le-min {k = pageEnd p limit (first + i)} (le-trans (min-le-left (p * (first + i + 1)) limit) (mul-le-mul-left {n = first + n} p (omega arith))) (min-le-right (p * (first + i + 1)) limit));
@@ -157,14 +158,6 @@ whole-here p limit slots image n e h u =
       slotted = omega arith;
       held = omega (arith, min-le-right (p * (0 + n)) limit);
     }
-
--- a recheck's range that passes 32 and 33, with a slot and a mark for each page
-pub record RangeHere (p limit : ℕ) (slots : List ℕ) (start size : ℕ) (bytes marks : List ℕ) : Type 0 where
-  pub fits : Fit p limit
-  pub slotted : slotWidth * pageCount p limit ≤ length slots
-  pub marked : length marks ≡ pageCount p limit
-  pub below : start + size ≤ limit
-  pub exact : length bytes ≡ wanted p limit start size
 
 -- the pages met, as the code cuts them out of the marks
 pub cut-length : (first end : ℕ) (marks : List ℕ) → first ≤ end → end ≤ length marks → length (take (end - first) (drop first marks)) ≡ end - first
