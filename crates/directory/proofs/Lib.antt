@@ -1,2 +1,6 @@
 -- Laws that belong to no one function.
+pub mod Numbers
+pub mod Versions
+pub mod Slots
+pub mod Formed
 pub mod Found

@@ -5,19 +5,20 @@
 // asks for. The table of tests is specs/Rows.antt, its pages specs/Pages.antt.
 ghost use mathlib.Core.Path.{_≡_};
 ghost use Prim.Native.Nat.{_-_, _<_};
-ghost use lib.ListN.{length, take, drop};
+ghost use lib.ListN.{length};
 ghost use Rattle.refusals.specs.Refusals.{holds, first, accepted, refuse};
-ghost use Rattle.layout.specs.CodeDirectory.{identOffset};
+ghost use Rattle.layout.specs.CodeDirectory.{identOffset, codeLimit};
 ghost use Rattle.directory.specs.Pages.{P, pages};
-ghost use Rattle.directory.specs.Rows.{headSize, headOf, specialOutside, codeOutside, identLength, fieldRows, slotRows, blobRows, signatureRows, specialSlot, codeSlots, FieldsRead};
+ghost use Rattle.directory.specs.Rows.{headSize, headOf, specialOutside, codeOutside, identLength, fieldRows, slotRows, blobRows, signatureRows, specialSlot, codeSlots};
 use layout::directory::CodeDirectory;
+use layout::parts::part;
 use refusals::Answer;
 use refusals::answers::answer;
 
-// The last version that has no codeLimit64.
-const LAST_WITHOUT_LIMIT64: usize = 0x202FF;
+// The first version that has codeLimit64.
+const LIMIT64_VERSION: usize = 0x20300;
 
-const MOST_CODE_SLOTS: usize = 65536;
+const MOST_PAGES: usize = 65536;
 
 const MOST_SPECIAL_SLOTS: usize = 11;
 
@@ -29,59 +30,32 @@ pub fn tested(sig: &[u8], side: usize) -> Answer
     if blobs.number != 0 {
         return blobs;
     }
-    let d = superblob::find(sig, CodeDirectory::TYPE);
-    if d.len() == 0 {
-        return answer(10, 0);
+    if superblob::has(sig, CodeDirectory::TYPE) {
+        return blob_tested(superblob::blob_of(sig, CodeDirectory::TYPE));
     }
-    blob_tested(d)
+    answer(10, 0)
 }
 
-// The fields that a check reads, with what follows from them.
-pub struct Directory {
-    pub version: usize,
-    pub flags: usize,
-    pub hash_offset: usize,
-    pub ident_offset: usize,
-    pub special_slots: usize,
-    pub code_slots: usize,
-    pub code_limit: usize,
-    pub hash_size: usize,
-    pub hash_type: usize,
-    pub platform: usize,
-    pub page_shift: usize,
-    // Bytes of a page.
-    pub page_size: usize,
-    // Bytes of the identifier, without the zero byte that ends it.
-    pub ident_length: usize,
-}
-
-// The fields of the directory whose blob is d.
-pub fn read(d: &[u8]) -> Directory
-    ensures { λ r. ⌜ FieldsRead (now (d .entry)) r ⌝ }
+// The code limit.
+pub fn code_limit(d: &[u8]) -> usize
+    ensures { λ r. ⌜ (r ≡ codeLimit (now (d .entry))) × (r < 4294967296) ⌝ }
 {
-    let head = CodeDirectory::read(d);
-    Directory {
-        version: head.version,
-        flags: head.flags,
-        hash_offset: head.hash_offset,
-        ident_offset: head.ident_offset,
-        special_slots: head.special_slots,
-        code_slots: head.code_slots,
-        code_limit: head.code_limit,
-        hash_size: head.hash_size,
-        hash_type: head.hash_type,
-        platform: head.platform,
-        page_shift: head.page_shift,
-        page_size: page_size(d),
-        ident_length: ident_length(d),
-    }
+    CodeDirectory::read(d).code_limit
 }
 
-// Special slot k, counted from 1, which ends where slot k - 1 starts; slot 1 ends at hashOffset.
+// Special slot k, counted from 1, which ends where slot k - 1 starts; slot 1 ends at hashOffset. Nothing where the directory has no such slot.
 pub fn special_slot<'a>(d: &'a [u8], k: usize) -> &'a [u8]
     ensures { λ r. ⌜ now r ≡ specialSlot (now (d .entry)) k ⌝ }
 {
-    let at = CodeDirectory::read(d).hash_offset;
+    let head = CodeDirectory::read(d);
+    let at = head.hash_offset;
+    let special = head.special_slots;
+    if k == 0 {
+        return part(d, 0, 0);
+    }
+    if special < k {
+        return part(d, 0, 0);
+    }
     if at / CodeDirectory::SLOT < k {
         return part(d, 0, CodeDirectory::SLOT);
     }
@@ -94,21 +68,6 @@ pub fn code_slots<'a>(d: &'a [u8]) -> &'a [u8]
 {
     let head = CodeDirectory::read(d);
     part(d, head.hash_offset, CodeDirectory::SLOT * head.code_slots)
-}
-
-// The `size` bytes from `start`, or what there is of them.
-fn part<'a>(d: &'a [u8], start: usize, size: usize) -> &'a [u8]
-    ensures { λ r. ⌜ now r ≡ take size (drop start (now (d .entry))) ⌝ }
-{
-    let all = d.len();
-    if all <= start {
-        return &d[all..];
-    }
-    if all - start < size {
-        return &d[start..];
-    }
-    let end = start + size;
-    &d[start..end]
 }
 
 // Tests 11 to 18 of the directory whose blob is d.
@@ -148,7 +107,7 @@ fn fields_tested(d: &[u8]) -> Answer
         0 | 12 | 14 => {}
         _ => return answer(14, 0),
     }
-    if head.version <= LAST_WITHOUT_LIMIT64 {
+    if head.version < LIMIT64_VERSION {
         return answer(0, 0);
     }
     if head.code_limit64 != 0 {
@@ -168,7 +127,7 @@ fn slots_tested(d: &[u8]) -> Answer
     if code != page_count(d) {
         return answer(16, 0);
     }
-    if MOST_CODE_SLOTS < code {
+    if MOST_PAGES < code {
         return answer(16, 0);
     }
     if MOST_SPECIAL_SLOTS < special {
@@ -236,7 +195,7 @@ fn head_size(version: usize) -> usize
         0x20300..=0x203FF => CodeDirectory::HEAD_CODE_LIMIT64,
         0x20400..=0x204FF => CodeDirectory::HEAD_EXEC_SEGMENT,
         0x20500..=0x205FF => CodeDirectory::HEAD_PRE_ENCRYPT,
-        0x20600 => CodeDirectory::HEAD_LINKAGE,
+        0x20600..=0x20600 => CodeDirectory::HEAD_LINKAGE,
         _ => 0,
     }
 }
@@ -248,18 +207,17 @@ fn head_of(d: &[u8]) -> usize
 }
 
 // Bytes of a page: 2 to the shift, or the whole code limit where the shift is 0; 0 for a shift that test 14 refuses.
-fn page_size(d: &[u8]) -> usize
+pub fn page_size(d: &[u8]) -> usize
     ensures { λ r. ⌜ r ≡ P (now (d .entry)) ⌝ }
 {
-    let head = CodeDirectory::read(d);
-    pages::page_bytes(head.page_shift, head.code_limit)
+    pages::page_bytes(CodeDirectory::read(d).page_shift, code_limit(d))
 }
 
 // The pages that the code limit makes.
 fn page_count(d: &[u8]) -> usize
     ensures { λ r. ⌜ r ≡ pages (now (d .entry)) ⌝ }
 {
-    pages::page_count(page_size(d), CodeDirectory::read(d).code_limit)
+    pages::page_count(page_size(d), code_limit(d))
 }
 
 // Bytes from the identifier's start to the directory's end.
@@ -274,7 +232,7 @@ fn ident_room(d: &[u8]) -> usize
 }
 
 // Bytes of the identifier before its zero byte; all the room where there is none.
-fn ident_length(d: &[u8]) -> usize
+pub fn ident_length(d: &[u8]) -> usize
     ensures { λ r. ⌜ r ≡ identLength (now (d .entry)) ⌝ }
 {
     let start = CodeDirectory::read(d).ident_offset;

@@ -1,7 +1,8 @@
 -- Tests 11 to 15, and where they pass 16 to 18.
 use native.Mathlib.Omega.{arith}
 use Rattle.refusals.proofs.Joined.{stops, goes}
-use Rattle.directory.specs.Rows.{fieldRows, slotRows, blobRows, fieldRows-unused}
+use Rattle.directory.specs.Rows.{fieldRows, slotRows, blobRows}
+use Rattle.directory.proofs.Numbers.{fieldRows-unused}
 use borrow.Author.Needs.{needs}
 use Rattle.directory.proofs.blob_tested.Statement.{statement}
 use Rattle.directory.proofs.blob_tested.Tie as tie

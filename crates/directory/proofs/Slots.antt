@@ -1,4 +1,4 @@
--- The slots inside the directory: test 17 in plain words, both ways, and the slots as parts of it.
+-- The slots inside the directory: test 17 in plain words, both ways, and the code slots as a part of it.
 use Prim.Native.Nat.{ℕ, zero, suc, _+_, _-_, _*_, _<_, _≤_}
 use mathlib.Core.Bool.{Bool, true, false}
 use mathlib.Core.List.{List, [], _∷_}
@@ -6,18 +6,13 @@ use mathlib.Core.Path.{_≡_, refl, sym, ap, _∙_}
 use native.Mathlib.Nat.{le-refl}
 use native.Mathlib.Omega.{arith}
 use lib.Dec.{ltb}
-use borrow.Author.Tests.{ltb-true, ltb-false}
 use lib.ListN.{length, take, drop, length-drop}
 use lib.Seq.{length-take-le, take-nil, take-take, drop-drop}
+use borrow.Author.Tests.{ltb-true, ltb-false}
 use Rattle.refusals.specs.Refusals.{_or_, Says}
-use Rattle.layout.specs.CodeDirectory.{hashOffset, nSpecialSlots, nCodeSlots}
-use Rattle.pages.specs.Marks.{slotWidth}
-use Rattle.directory.specs.Rows.{headOf, codeSlot, specialSlot, codeSlots, specialOutside, codeOutside}
-
--- every slot lies between the head's end and the directory's
-pub record SlotsInside (d : List ℕ) : Type 0 where
-  pub special : (k : ℕ) → 0 < k → k ≤ nSpecialSlots d → (headOf d + slotWidth * k ≤ hashOffset d) × (hashOffset d - slotWidth * k + slotWidth ≤ length d)
-  pub code : (i : ℕ) → i < nCodeSlots d → (headOf d ≤ hashOffset d + slotWidth * i) × (hashOffset d + slotWidth * i + slotWidth ≤ length d)
+use Rattle.layout.specs.CodeDirectory.{slotWidth, hashOffset, nSpecialSlots, nCodeSlots}
+use Rattle.directory.specs.Rows.{headOf, codeSlot, codeSlots, specialOutside, codeOutside}
+use Rattle.directory.specs.Formed.{SlotsInside}
 
 -- test 17 passes exactly then
 pub slots-inside : (d : List ℕ) → (Says false (specialOutside d or codeOutside d) → SlotsInside d) × (SlotsInside d → Says false (specialOutside d or codeOutside d))
@@ -55,26 +50,18 @@ drop-take (suc k) (suc n) (x ∷ l) =
     let e : suc n - suc k ≡ n - k = omega arith in
     rw e (drop-take k n l)
 
-module _ (d : List ℕ) (w : SlotsInside d) where
-  pub codeSlot-length : (i : ℕ) → i < nCodeSlots d → length (codeSlot d i) ≡ slotWidth
-  unfolding codeSlot
-  codeSlot-length i h = part-length slotWidth (hashOffset d + slotWidth * i) d (omega (arith, w .code i h))
-
-  pub specialSlot-length : (k : ℕ) → 0 < k → k ≤ nSpecialSlots d → length (specialSlot d k) ≡ slotWidth
-  unfolding specialSlot
-  specialSlot-length k p q = part-length slotWidth (hashOffset d - slotWidth * k) d (omega (arith, w .special k p q))
-
-  pub codeSlots-length : length (codeSlots d) ≡ slotWidth * nCodeSlots d
-  unfolding codeSlots
-  codeSlots-length = by-test (ltb 0 (nCodeSlots d)) refl
-    where
-      by-test : (b : Bool) → ltb 0 (nCodeSlots d) ≡ b → length (take (slotWidth * nCodeSlots d) (drop (hashOffset d) d)) ≡ slotWidth * nCodeSlots d
-      by-test true e =
-          let h = ltb-true 0 (nCodeSlots d) e in
-          part-length (slotWidth * nCodeSlots d) (hashOffset d) d (omega (arith, w .code (nCodeSlots d - 1) (omega arith)))
-      by-test false e =
-          let z : slotWidth * nCodeSlots d ≡ 0 = omega (arith, ltb-false 0 (nCodeSlots d) e) in
-          rw z
+-- the code slots are all there
+pub codeSlots-length : (d : List ℕ) → SlotsInside d → length (codeSlots d) ≡ slotWidth * nCodeSlots d
+unfolding codeSlots
+codeSlots-length d w = by-test (ltb 0 (nCodeSlots d)) refl
+  where
+    by-test : (b : Bool) → ltb 0 (nCodeSlots d) ≡ b → length (take (slotWidth * nCodeSlots d) (drop (hashOffset d) d)) ≡ slotWidth * nCodeSlots d
+    by-test true e =
+        let h = ltb-true 0 (nCodeSlots d) e in
+        part-length (slotWidth * nCodeSlots d) (hashOffset d) d (omega (arith, w .code (nCodeSlots d - 1) (omega arith)))
+    by-test false e =
+        let z : slotWidth * nCodeSlots d ≡ 0 = omega (arith, ltb-false 0 (nCodeSlots d) e) in
+        rw z
 
 -- code slot i, in the code slots
 pub codeSlot-part : (d : List ℕ) (i : ℕ) → i < nCodeSlots d → codeSlot d i ≡ take slotWidth (drop (slotWidth * i) (codeSlots d))
