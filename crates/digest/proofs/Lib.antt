@@ -2,3 +2,5 @@
 pub mod Rounds
 pub mod Blocks
 pub mod Padding
+pub mod Examples
+pub mod Equality

@@ -3,4 +3,3 @@ pub mod Message
 pub mod Hash
 pub mod Sha256
 pub mod Same
-pub mod Examples

@@ -13,7 +13,8 @@ use Rattle.refusals.specs.Refusals.{holds, lowest, refuse, first, Passes}
 use Rattle.refusals.proofs.Positions.{none-fails}
 use Rattle.digest.specs.Hash.{digest}
 use Rattle.digest.specs.Sha256.{sha256}
-use Rattle.digest.specs.Same.{same, same-equal, equal-same}
+use Rattle.digest.specs.Same.{same}
+use Rattle.digest.proofs.Equality.{same-equal, equal-same}
 use Rattle.layout.specs.CodeDirectory.{slotWidth}
 use Rattle.pages.specs.Pages.{Fit, pageCount, pageEnd, part, pageOf, metFirst, metEnd, wanted}
 use Rattle.pages.specs.Marks.{slotAt, agrees, markOf, marksOf, markIn, marksFrom, remarked, neither, differs, markRows, badRows, judged, PageHere, PagesHere, RangeHere}

@@ -1,16 +1,15 @@
--- Tests 21 to 23 of document 01: each special slot against the thing that it covers. `s` is the lent signature, and `x` the side files.
-use Prim.Native.Nat.{ℕ}
+-- Tests 21 to 23 of document 01: each special slot against the thing that it covers. `s` is the lent signature, `d` its directory, and `x` the
+-- side files.
+use Prim.Native.Nat.{ℕ, _+_}
 use mathlib.Core.Bool.{Bool, true, false, cond, not, _&&_, _||_}
 use mathlib.Core.List.{List, [], _∷_}
-use lib.Dec.{eqb, leb}
-use lib.ListN.{length}
+use lib.Dec.{eqb}
 use Rattle.digest.specs.Hash.{digest}
 use Rattle.digest.specs.Sha256.{sha256}
 use Rattle.digest.specs.Same.{same}
-use Rattle.refusals.specs.Refusals.{Row, among}
-use Rattle.layout.specs.CodeDirectory.{nSpecialSlots}
-use Rattle.superblob.specs.Rows.{blob}
-use Rattle.directory.specs.Rows.{specialSlot}
+use Rattle.refusals.specs.Refusals.{holds, Row, among}
+use Rattle.superblob.specs.Rows.{has, blobOf}
+use Rattle.directory.specs.Rows.{mostSpecialSlots, specialSlot}
 
 -- the side files: whether each is there, and its bytes, which count for nothing where it is not
 pub record Sides : Type 0 where
@@ -29,9 +28,9 @@ unfoldable pub allZero : List ℕ → Bool
 allZero [] = true
 allZero (b ∷ bs) = eqb b 0 && allZero bs
 
--- special slot k of the directory d is filled: k is at most nSpecialSlots, and its bytes are not all zero. A slot that is not filled is empty
+-- special slot k is filled: the directory has it, and its bytes are not all zero. A slot that is not filled is empty
 unfoldable pub filled : List ℕ → ℕ → Bool
-filled d k = leb k (nSpecialSlots d) && not (allZero (specialSlot d k))
+filled d k = not (allZero (specialSlot d k))
 
 -- THE THING
 
@@ -39,13 +38,13 @@ filled d k = leb k (nSpecialSlots d) && not (allZero (specialSlot d k))
 abbrev pub nothing : ℕ → Bool
 nothing k = eqb k 4 || eqb k 6
 
--- the thing of slot k is there: of 1 the Info.plist, of 3 the CodeResources, of any other the blob of type k, which the lookup hands back
+-- the thing of slot k is there: of 1 the Info.plist, of 3 the CodeResources, of any other the blob of type k, where the index has the type
 unfoldable pub there : List ℕ → Sides → ℕ → Bool
-there s x k = cond (eqb k 1) (x .infoThere) (cond (eqb k 3) (x .resourcesThere) (not (nothing k) && not (eqb (length (blob s k)) 0)))
+there s x k = cond (eqb k 1) (x .infoThere) (cond (eqb k 3) (x .resourcesThere) (not (nothing k) && holds (has s k)))
 
 -- its bytes; a blob's with its head
 unfoldable pub thing : List ℕ → Sides → ℕ → List ℕ
-thing s x k = cond (eqb k 1) (x .info) (cond (eqb k 3) (x .resources) (blob s k))
+thing s x k = cond (eqb k 1) (x .info) (cond (eqb k 3) (x .resources) (blobOf s k))
 
 -- THE TEST
 
@@ -58,10 +57,9 @@ faultOf false true agrees = 23
 faultOf false false agrees = 0
 
 -- what is wrong at slot k, for k from 1; 0 where nothing is
-unfoldable pub fault : List ℕ → Sides → ℕ → ℕ
-fault s x k =
-    cond (eqb k 0) 0 (faultOf (filled (blob s 0) k) (there s x k) (same (digest sha256 (thing s x k)) (specialSlot (blob s 0) k)))
+unfoldable pub fault : List ℕ → List ℕ → Sides → ℕ → ℕ
+fault s d x k = cond (eqb k 0) 0 (faultOf (filled d k) (there s x k) (same (digest sha256 (thing s x k)) (specialSlot d k)))
 
 -- one test over k from 1 to 11
-unfoldable pub specialRows : List ℕ → Sides → List Row
-specialRows s x = among 12 (fault s x) (21 ∷ 22 ∷ 23 ∷ [])
+unfoldable pub specialRows : List ℕ → List ℕ → Sides → List Row
+specialRows s d x = among (mostSpecialSlots + 1) (fault s d x) (21 ∷ 22 ∷ 23 ∷ [])

@@ -2,7 +2,7 @@
 //
 // Slot k holds the hash of one thing: 1 the Info.plist, 3 the CodeResources, 2, 5, 7 and 8 to 11 the blob of that type with its head; 4 and
 // 6 cover nothing. A slot that is empty while its thing is there is refused, as is a slot that is filled while its thing is not. The
-// test's definition is specs/Slots.antt, and its plain reading specs/Sealed.antt.
+// test's definition is specs/Slots.antt, and its plain reading specs/Matches.antt.
 ghost use mathlib.Core.Path.{_≡_};
 ghost use Rattle.refusals.specs.Refusals.{lowest, faulty, first, accepted, refuse};
 ghost use Rattle.digest.specs.Hash.{digest};
@@ -10,29 +10,29 @@ ghost use Rattle.digest.specs.Sha256.{sha256};
 ghost use Rattle.digest.specs.Same.{same};
 ghost use Rattle.directory.specs.Rows.{specialSlot};
 ghost use Rattle.slots.specs.Slots.{sides, allZero, filled, faultOf, fault, specialRows};
-use layout::directory::CodeDirectory;
 use refusals::Answer;
 use refusals::answers::answer;
 
 // The last special slot.
 const LAST: u32 = 11;
 
-// Tests 21 to 23, over k from 1 to 11. A side file whose flag is off is not read.
+// Tests 21 to 23 of the directory d, over k from 1 to 11. A side file whose flag is off is not read.
 pub fn tested(
     sig: &[u8],
+    d: &[u8],
     info_there: bool,
     info: &[u8],
     resources_there: bool,
     resources: &[u8],
 ) -> Answer
-    ensures { λ r. ⌜ r ≡ first (specialRows (now (sig .entry)) (sides «info_there» (now (info .entry)) «resources_there» (now (resources .entry)))) accepted ⌝ }
+    ensures { λ r. ⌜ r ≡ first (specialRows (now (sig .entry)) (now (d .entry)) (sides «info_there» (now (info .entry)) «resources_there» (now (resources .entry)))) accepted ⌝ }
 {
-    let k = lowest_fault(sig, info_there, info, resources_there, resources);
+    let k = lowest_fault(sig, d, info_there, info, resources_there, resources);
     if LAST < k {
         return answer(0, 0);
     }
     answer(
-        fault_at(sig, info_there, info, resources_there, resources, k),
+        fault_at(sig, d, info_there, info, resources_there, resources, k),
         k as usize,
     )
 }
@@ -40,16 +40,17 @@ pub fn tested(
 // The lowest slot at which something is wrong; 12 where nothing is.
 fn lowest_fault(
     sig: &[u8],
+    d: &[u8],
     info_there: bool,
     info: &[u8],
     resources_there: bool,
     resources: &[u8],
 ) -> u32
-    ensures { λ r. ⌜ r ≡ lowest (faulty (fault (now (sig .entry)) (sides «info_there» (now (info .entry)) «resources_there» (now (resources .entry))))) 12 ⌝ }
+    ensures { λ r. ⌜ r ≡ lowest (faulty (fault (now (sig .entry)) (now (d .entry)) (sides «info_there» (now (info .entry)) «resources_there» (now (resources .entry))))) 12 ⌝ }
 {
     let mut k: u32 = 1;
     while k <= LAST {
-        if fault_at(sig, info_there, info, resources_there, resources, k) != 0 {
+        if fault_at(sig, d, info_there, info, resources_there, resources, k) != 0 {
             return k;
         }
         k += 1;
@@ -60,25 +61,27 @@ fn lowest_fault(
 // What is wrong at slot k: 21, 22 or 23; 0 where nothing is.
 fn fault_at(
     sig: &[u8],
+    d: &[u8],
     info_there: bool,
     info: &[u8],
     resources_there: bool,
     resources: &[u8],
     k: u32,
 ) -> u32
-    ensures { λ r. ⌜ r ≡ fault (now (sig .entry)) (sides «info_there» (now (info .entry)) «resources_there» (now (resources .entry))) k ⌝ }
+    ensures { λ r. ⌜ r ≡ fault (now (sig .entry)) (now (d .entry)) (sides «info_there» (now (info .entry)) «resources_there» (now (resources .entry))) k ⌝ }
 {
-    let d = superblob::find(sig, CodeDirectory::TYPE);
     let slot = k as usize;
     match k {
         0 => 0,
         1 => fault_of(d, slot, info_there, info),
         3 => fault_of(d, slot, resources_there, resources),
-        4 | 6 => fault_of(d, slot, false, superblob::find(sig, k)),
-        _ => {
-            let blob = superblob::find(sig, k);
-            fault_of(d, slot, blob.len() != 0, blob)
-        }
+        4 | 6 => fault_of(d, slot, false, superblob::blob_of(sig, k)),
+        _ => fault_of(
+            d,
+            slot,
+            superblob::has(sig, k),
+            superblob::blob_of(sig, k),
+        ),
     }
 }
 
@@ -101,22 +104,19 @@ fn fault_of(d: &[u8], k: usize, there: bool, thing: &[u8]) -> u32
     0
 }
 
-// Special slot k is there, and its bytes are not all zero.
+// The directory has special slot k, and its bytes are not all zero.
 fn is_filled(d: &[u8], k: usize) -> bool
     ensures { λ r. ⌜ r ≡ filled (now (d .entry)) k ⌝ }
 {
-    if CodeDirectory::read(d).special_slots < k {
-        return false;
-    }
     !all_zero(directory::special_slot(d, k))
 }
 
-fn all_zero(bytes: &[u8]) -> bool
-    ensures { λ r. ⌜ r ≡ allZero (now (bytes .entry)) ⌝ }
+fn all_zero(slot: &[u8]) -> bool
+    ensures { λ r. ⌜ r ≡ allZero (now (slot .entry)) ⌝ }
 {
     let mut i: usize = 0;
-    while i < bytes.len() {
-        if bytes[i] != 0 {
+    while i < slot.len() {
+        if slot[i] != 0 {
             return false;
         }
         i += 1;

@@ -1,18 +1,19 @@
+-- No byte before i is other than zero; the loop stops at the first that is.
 use Prim.Native.Nat.{ℕ, _-_, _<_, _≤_}
 use mathlib.Core.Path.{_≡_}
 use native.Mathlib.Omega.{arith}
 use lib.ListN.{length, getD}
 use borrow.Author.Needs.{needs}
-use Rattle.slots.specs.Sealed.{not-all-zero, every-zero}
+use Rattle.slots.proofs.Zeros.{not-all-zero, every-zero}
 use borrow.Author.Count.{below-more}
 use Rattle.slots.proofs.all_zero.Statement.{statement}
 use Rattle.slots.proofs.all_zero.Tie as tie
 
 abbrev Inv-loop : tie.InvT-loop
-Inv-loop bytes i₀ i = (i ≤ length bytes) × ((k : ℕ) → k < i → getD bytes k 0 ≡ 0)
+Inv-loop slot i₀ i = (i ≤ length slot) × ((k : ℕ) → k < i → getD slot k 0 ≡ 0)
 
 abbrev μ-loop : tie.MeasureT-loop
-μ-loop bytes i₀ i = length bytes - i
+μ-loop slot i₀ i = length slot - i
 
 loop-holds : tie.Need-loop-holds Inv-loop μ-loop
 loop-holds c = (search needs, λ k l. absurd (omega arith))

@@ -11,19 +11,19 @@ use Rattle.slots.proofs.lowest_fault.Statement.{statement}
 use Rattle.slots.proofs.lowest_fault.Tie as tie
 
 abbrev Inv-loop : tie.InvT-loop
-Inv-loop sig info-there info resources-there resources k₀ k = (1 ≤ k) × (k ≤ 12) × (lowest (faulty (fault sig (sides info-there info resources-there resources))) k ≡ k)
+Inv-loop sig d info-there info resources-there resources k₀ k = (1 ≤ k) × (k ≤ 12) × (lowest (faulty (fault sig d (sides info-there info resources-there resources))) k ≡ k)
 
 abbrev μ-loop : tie.MeasureT-loop
-μ-loop sig info-there info resources-there resources k₀ k = 12 - k
+μ-loop sig d info-there info resources-there resources k₀ k = 12 - k
 
 loop-holds : tie.Need-loop-holds Inv-loop μ-loop
-loop-holds c = (search needs, search needs, first-slot _ _)
+loop-holds c = (search needs, search needs, first-slot _ _ _)
 
 fault-at-requires : tie.Need-fault-at-requires Inv-loop μ-loop
 fault-at-requires c κs = search needs
 
 returns : tie.Need-returns Inv-loop μ-loop
-returns c = lowest-stop _ _ _ (omega arith) (cc) (slot-fails _ _ _ (c .before .fault-at .result) (cc) (omega arith))
+returns c = lowest-stop _ _ _ (omega arith) (cc) (slot-fails _ _ _ _ (c .before .fault-at .result) (cc) (omega arith))
 
 add-k : tie.Need-add-k Inv-loop μ-loop
 add-k c = search needs
@@ -32,7 +32,7 @@ loop-less : tie.Need-loop-less Inv-loop μ-loop
 loop-less c = search needs
 
 loop-again : tie.Need-loop-again Inv-loop μ-loop
-loop-again c = (search needs, search needs, lowest-more _ _ (cc) (slot-passes _ _ _ (c .before .fault-at .result) (cc) (omega arith)))
+loop-again c = (search needs, search needs, lowest-more _ _ (cc) (slot-passes _ _ _ _ (c .before .fault-at .result) (cc) (omega arith)))
 
 returns-2 : tie.Need-returns-2 Inv-loop μ-loop
 returns-2 c = lowest-end _ _ _ (omega arith) (cc)

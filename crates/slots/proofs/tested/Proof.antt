@@ -12,7 +12,7 @@ answer-requires : tie.Need-answer-requires
 answer-requires c κs = search needs
 
 returns : tie.Need-returns
-returns c = slots-pass _ _ (c .before .before .lowest-fault .result) _ (cc) (omega arith) (cc)
+returns c = slots-pass _ _ _ (c .before .before .lowest-fault .result) _ (cc) (omega arith) (cc)
 
 fault-at-requires : tie.Need-fault-at-requires
 fault-at-requires c κs = search needs
@@ -24,7 +24,7 @@ answer-requires-2 : tie.Need-answer-requires-2
 answer-requires-2 c κs = search needs
 
 returns-2 : tie.Need-returns-2
-returns-2 c = slots-refuse _ _ (c .before .before .before .lowest-fault .result) (c .before .fault-at .result) _ (cc) (omega arith) (cc) (cc)
+returns-2 c = slots-refuse _ _ _ (c .before .before .before .lowest-fault .result) (c .before .fault-at .result) _ (cc) (omega arith) (cc) (cc)
 
 pub tested-spec : {M : Type 1} → statement M
 tested-spec =

@@ -1,0 +1,171 @@
+-- Tests 21 to 23 and their plain words. What is wrong at a slot is decided by three tests, so the proof goes by their outcomes: the slot is filled
+-- where a byte is not zero, the thing is there where its type stands in the index, and the digests agree where they are equal.
+use Prim.Native.Nat.{ℕ, zero, suc, _+_, _<_, _≤_}
+use mathlib.Core.Bool.{Bool, true, false, cond, not, _&&_, true≢false, false≢true}
+use mathlib.Core.List.{List, [], _∷_}
+use mathlib.Core.Logic.{_⊎_, inl, inr}
+use mathlib.Core.Path.{_≡_, refl, sym, ap, subst, _∙_}
+use native.Mathlib.Omega.{arith}
+use lib.Dec.{eqb}
+use lib.ListN.{getD}
+use borrow.Author.Tests.{eqb-true, eqb-false, ne-eqb}
+use Rattle.digest.specs.Hash.{digest}
+use Rattle.digest.specs.Sha256.{sha256}
+use Rattle.digest.specs.Same.{same}
+use Rattle.digest.proofs.Equality.{same-equal, equal-same}
+use Rattle.refusals.specs.Ranges.{lookup}
+use Rattle.refusals.specs.Refusals.{holds, Passes}
+use Rattle.refusals.proofs.Conditions.{says, said}
+use Rattle.refusals.proofs.Several.{OneOf, clear-passes, passes-clear}
+use Rattle.layout.specs.SuperBlob.{count, typeAt}
+use Rattle.superblob.specs.Rows.{slotMagics, magicOf, position, has, blobAt, blobOf}
+use Rattle.superblob.specs.Formed.{Formed}
+use Rattle.superblob.proofs.Lookup.{found-blob, has-position, blob-at}
+use Rattle.directory.specs.Rows.{mostSpecialSlots, specialSlot}
+use Rattle.slots.specs.Slots.{Sides, allZero, filled, nothing, there, thing, faultOf, fault, specialRows}
+use Rattle.slots.specs.Matches.{Filled, Empty, Thing, info-plist, code-resources, blob-of, Matches, MatchesExactly}
+use Rattle.slots.proofs.Zeros.{not-all-zero, some-not-zero}
+
+-- THE FAULT
+
+-- it is 21, 22 or 23, or 0
+fault-one : (f t a : Bool) → OneOf (21 ∷ 22 ∷ 23 ∷ []) (faultOf f t a)
+unfolding faultOf
+fault-one true false a = inl refl
+fault-one true true false = inr (inl refl)
+fault-one true true true = inr (inr (inr refl))
+fault-one false true a = inr (inr (inl refl))
+fault-one false false a = inr (inr (inr refl))
+
+zero-either : (t : Bool) → cond {A = ℕ} t 0 0 ≡ 0
+zero-either true = refl
+zero-either false = refl
+
+pub fault-known : (s d : List ℕ) (x : Sides) (k : ℕ) → OneOf (21 ∷ 22 ∷ 23 ∷ []) (fault s d x k)
+unfolding fault
+fault-known s d x k = by-test (eqb k 0)
+  where
+    by-test : (t : Bool) → OneOf (21 ∷ 22 ∷ 23 ∷ []) (cond t 0 (faultOf (filled d k) (there s x k) (same (digest sha256 (thing s x k)) (specialSlot d k))))
+    by-test true = inr (inr (inr refl))
+    by-test false = fault-one (filled d k) (there s x k) (same (digest sha256 (thing s x k)) (specialSlot d k))
+
+-- THE SLOT
+
+-- a slot that is filled has a byte that is not zero, and only such a slot
+filled-bytes : (d : List ℕ) (k : ℕ) → filled d k ≡ true → Filled d k
+unfolding filled
+filled-bytes d k e = by-test (allZero (specialSlot d k)) refl e
+  where
+    by-test : (z : Bool) → allZero (specialSlot d k) ≡ z → not z ≡ true → Filled d k
+    by-test true q e = absurd (false≢true e)
+    by-test false q e = some-not-zero (specialSlot d k) q
+
+bytes-filled : (d : List ℕ) (k : ℕ) → Filled d k → filled d k ≡ true
+unfolding filled
+bytes-filled d k h = rw (← not-all-zero (specialSlot d k) (h .0) (h .1))
+
+-- a slot that is not filled is empty
+empty-bytes : (d : List ℕ) (k : ℕ) → filled d k ≡ false → Empty d k
+empty-bytes d k e j = by-test (eqb (getD (specialSlot d k) j 0) 0) refl
+  where
+    by-test : (t : Bool) → eqb (getD (specialSlot d k) j 0) 0 ≡ t → getD (specialSlot d k) j 0 ≡ 0
+    by-test true q = eqb-true _ _ q
+    by-test false q = absurd (true≢false (sym (bytes-filled d k (j, eqb-false _ _ q)) ∙ e))
+
+bytes-empty : (d : List ℕ) (k : ℕ) → Empty d k → filled d k ≡ false
+bytes-empty d k h = by-test (filled d k) refl
+  where
+    by-test : (t : Bool) → filled d k ≡ t → filled d k ≡ false
+    by-test true e = let w = filled-bytes d k e in absurd (w .1 (h (w .0)))
+    by-test false e = e
+
+-- THE THING
+
+-- no blob of a SuperBlob that is well formed has type 4 or 6
+magic-none : (k : ℕ) → (k ≡ 4) ⊎ (k ≡ 6) → magicOf k ≡ 0
+unfolding magicOf slotMagics lookup
+magic-none k (inl e) = rw e
+magic-none k (inr e) = rw e
+
+module _ (s : List ℕ) (x : Sides) (f : Formed s) where
+  -- a type that stands in the index has a blob at its position
+  blob-there : (k : ℕ) → (k ≡ 1 → ⊥) → (k ≡ 3 → ⊥) → holds (has s k) ≡ true → Thing s x k (blobOf s k)
+  unfolding has blobOf
+  blob-there k n1 n3 e =
+      let h : position s k < count s = said true (has s k) (sym e) in
+      blob-of (position s k) n1 n3 h (found-blob s k f h .type-is)
+
+  -- what the test takes for there is there
+  there-thing : (k : ℕ) → there s x k ≡ true → Thing s x k (thing s x k)
+  unfolding there thing
+  there-thing k e = by-tests (eqb k 1) refl (eqb k 3) refl (nothing k) e
+    where
+      by-tests : (a : Bool) → eqb k 1 ≡ a → (b : Bool) → eqb k 3 ≡ b → (n : Bool)
+          → cond a (x .infoThere) (cond b (x .resourcesThere) (not n && holds (has s k))) ≡ true
+          → Thing s x k (cond a (x .info) (cond b (x .resources) (blobOf s k)))
+      by-tests true p b q n e = rw (eqb-true k 1 p) (info-plist e)
+      by-tests false p true q n e = rw (eqb-true k 3 q) (code-resources e)
+      by-tests false p false q true e = absurd (false≢true e)
+      by-tests false p false q false e = blob-there k (eqb-false k 1 p) (eqb-false k 3 q) e
+
+  -- a blob's type is neither 4 nor 6
+  known : (i k : ℕ) → i < count s → typeAt s i ≡ k → (k ≡ 4) ⊎ (k ≡ 6) → ⊥
+  known i k h e o = f .inside i h .known (ap magicOf e ∙ magic-none k o)
+
+  has-type : (i k : ℕ) → i < count s → typeAt s i ≡ k → holds (has s k) ≡ true
+  unfolding has
+  has-type i k h e = sym (says true (has s k) (has-position s f i k h e))
+
+  -- and what is there the test takes for there, with its bytes
+  thing-there : (k : ℕ) (b : List ℕ) → Thing s x k b → (there s x k ≡ true) × (thing s x k ≡ b)
+  unfolding there thing
+  thing-there _ _ (info-plist e) = (e, refl)
+  thing-there _ _ (code-resources e) = (e, refl)
+  thing-there k _ (blob-of i n1 n3 h e) = (
+    rw (ne-eqb k 1 n1, ne-eqb k 3 n3, ne-eqb k 4 (λ q. known i k h e (inl q)), ne-eqb k 6 (λ q. known i k h e (inr q))) (has-type i k h e),
+    rw (ne-eqb k 1 n1, ne-eqb k 3 n3) (blob-at s f i k h e),
+  )
+
+  -- THE RULE
+
+  module _ (d : List ℕ) where
+    -- no fault is left in two of the cases alone
+    by-tests : (k : ℕ) (f t a : Bool) → filled d k ≡ f → there s x k ≡ t → same (digest sha256 (thing s x k)) (specialSlot d k) ≡ a
+        → faultOf f t a ≡ 0 → Matches s d x k
+    unfolding faultOf
+    by-tests k true false a p q r e = absurd (omega arith)
+    by-tests k true true false p q r e = absurd (omega arith)
+    by-tests k true true true p q r e = inl (filled-bytes d k p, (thing s x k, (there-thing k q, same-equal _ _ r)))
+    by-tests k false true a p q r e = absurd (omega arith)
+    by-tests k false false a p q r e = inr (empty-bytes d k p, λ b t. true≢false (sym (thing-there k b t .0) ∙ q))
+
+    clear-matches : (k : ℕ) → 1 ≤ k → fault s d x k ≡ 0 → Matches s d x k
+    unfolding fault
+    clear-matches k l e = by-tests k _ _ _ refl refl refl (rw (ne-eqb k 0 (omega arith)) at e)
+
+    nothing-there : (k : ℕ) → ((b : List ℕ) → Thing s x k b → ⊥) → there s x k ≡ false
+    nothing-there k none = by-test (there s x k) refl
+      where
+        by-test : (t : Bool) → there s x k ≡ t → there s x k ≡ false
+        by-test true e = absurd (none (thing s x k) (there-thing k e))
+        by-test false e = e
+
+    -- .. and there is none in these
+    matches-clear : (k : ℕ) → Matches s d x k → fault s d x k ≡ 0
+    unfolding fault faultOf
+    matches-clear k (inl (p, (b, (t, r)))) =
+        let w = thing-there k b t in
+        rw (bytes-filled d k p, w .0, equal-same _ _ (ap (digest sha256) (w .1) ∙ r)) (zero-either (eqb k 0))
+    matches-clear k (inr (p, none)) = rw (bytes-empty d k p, nothing-there k none) (zero-either (eqb k 0))
+
+    slot-clear : ((k : ℕ) → 1 ≤ k → k ≤ mostSpecialSlots → Matches s d x k) → (k : ℕ) → k < mostSpecialSlots + 1 → fault s d x k ≡ 0
+    unfolding fault
+    slot-clear h zero l = refl
+    slot-clear h (suc k) l = matches-clear (suc k) (h (suc k) (omega arith) (omega arith))
+
+pub matches-exactly : MatchesExactly
+unfolding specialRows
+matches-exactly s d x f = (
+  (λ p k l u. clear-matches s x f d k l (passes-clear (mostSpecialSlots + 1) (fault s d x) (21 ∷ 22 ∷ 23 ∷ []) (λ i m. fault-known s d x i) p k (omega arith))),
+  λ h. clear-passes (mostSpecialSlots + 1) (fault s d x) (21 ∷ 22 ∷ 23 ∷ []) (slot-clear s x f d h),
+)

@@ -1,0 +1,40 @@
+-- Tests 21 to 23 in plain words: each special slot is filled with the digest of the thing that is there, or empty with nothing there.
+use Prim.Native.Nat.{ℕ, _<_, _≤_}
+use mathlib.Core.Bool.{true}
+use mathlib.Core.List.{List}
+use mathlib.Core.Logic.{_⊎_, _↔_}
+use mathlib.Core.Path.{_≡_}
+use lib.ListN.{getD}
+use Rattle.digest.specs.Hash.{digest}
+use Rattle.digest.specs.Sha256.{sha256}
+use Rattle.refusals.specs.Refusals.{Passes}
+use Rattle.layout.specs.SuperBlob.{count, typeAt}
+use Rattle.superblob.specs.Rows.{blobAt}
+use Rattle.superblob.specs.Formed.{Formed}
+use Rattle.directory.specs.Rows.{mostSpecialSlots, specialSlot}
+use Rattle.slots.specs.Slots.{Sides, specialRows}
+
+-- slot k of the directory d is filled: a byte of it is not zero
+abbrev pub Filled : List ℕ → ℕ → Type 0
+Filled d k = (j : ℕ) × (getD (specialSlot d k) j 0 ≡ 0 → ⊥)
+
+-- or empty: the directory has it not, or all its bytes are zero
+abbrev pub Empty : List ℕ → ℕ → Type 0
+Empty d k = (j : ℕ) → getD (specialSlot d k) j 0 ≡ 0
+
+-- the thing that slot k covers is there, and b is its bytes: a blob is there where its type stands in the index
+pub data Thing (s : List ℕ) (x : Sides) : ℕ → List ℕ → Type 0 where
+  info-plist : x .infoThere ≡ true → Thing s x 1 (x .info)
+  code-resources : x .resourcesThere ≡ true → Thing s x 3 (x .resources)
+  blob-of : {k : ℕ} (i : ℕ) → (k ≡ 1 → ⊥) → (k ≡ 3 → ⊥) → i < count s → typeAt s i ≡ k → Thing s x k (blobAt s i)
+
+-- slot k: filled with the digest of the thing that is there, or empty with nothing there
+abbrev pub Matches : List ℕ → List ℕ → Sides → ℕ → Type 0
+Matches s d x k =
+    (Filled d k × ((b : List ℕ) × (Thing s x k b × (digest sha256 b ≡ specialSlot d k))))
+    ⊎ (Empty d k × ((b : List ℕ) → Thing s x k b → ⊥))
+
+-- tests 21 to 23 pass exactly where every slot from 1 to 11 is so, of a SuperBlob that is well formed
+abbrev pub MatchesExactly : Type 0
+MatchesExactly = (s d : List ℕ) (x : Sides) → Formed s
+    → Passes (specialRows s d x) ↔ ((k : ℕ) → 1 ≤ k → k ≤ mostSpecialSlots → Matches s d x k)
