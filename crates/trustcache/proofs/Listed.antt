@@ -27,14 +27,14 @@ module _ (c : List ℕ) (h : ℕ) (facts : Launch) where
   unfolding cacheRows lookupRows
   listed p =
       let w = append-passes (formRows c) (lookupRows c h ++ launchRows (categoryAt c (entryOf c h)) facts) p in
-      let q = w .1 in
+      let q = append-passes (lookupRows c h) (launchRows (categoryAt c (entryOf c h)) facts) (w .1) in
       let l : entryOf c h < entryCount c = omega (arith, entry-most c h, q .0) in
       record {
         form = cache-formed c (w .0);
         below = l;
         hash = entry-has c h l;
-        type = q .1 .0;
-        constraints = allowed (categoryAt c (entryOf c h)) facts (q .1 .1 .0) (q .1 .1 .1);
+        type = omega (arith, q .0);
+        constraints = allowed (categoryAt c (entryOf c h)) facts (omega (arith, q .0)) (q .1);
       }
 
   -- the search finds the entry that lists the hash
@@ -46,7 +46,7 @@ module _ (c : List ℕ) (h : ℕ) (facts : Launch) where
   found-passes w =
       let a = allowed-passes (categoryAt c (entryOf c h)) facts (w .constraints) in
       passes-append (formRows c) (lookupRows c h ++ launchRows (categoryAt c (entryOf c h)) facts) (formed-passes c (w .form))
-      ((λ e. omega (arith, w .below)), (w .type, (a .0, a .1)))
+      (passes-append (lookupRows c h) (launchRows (categoryAt c (entryOf c h)) facts) (omega (arith, w .below, w .type, a .0)) (a .1))
 
   -- where an entry lists the hash, the tests pass
   pub listed-passes : (entry : ℕ) → Listed c h facts entry → Passes (cacheRows c h facts)
