@@ -37,6 +37,7 @@ selfFails facts =
 unfoldable pub parentFails : Launch → Cond
 parentFails facts = flag (facts .«parent_is_init») ≡? 0
 
+-- the constraints of a launch under a category
 unfoldable pub launchRows : ℕ → Launch → List Row
 launchRows category facts =
     row 29 (category ≡? constrainedCategory and selfFails facts) 0

@@ -39,6 +39,7 @@ order x y = pick (x <? y) 0 (pick (x ≡? y) 1 2)
 unfoldable pub notAbove : List ℕ → ℕ → Cond
 notAbove c i = 0 <? i and hashNumber c i ≤? hashNumber c (i - 1)
 
+-- the cache's form, and the order of its entries
 unfoldable pub formRows : List ℕ → List Row
 formRows c =
     row 24 (length c <? cacheHead or cacheVersion c ≢? versionTaken or mostEntries <? entryCount c or length c ≢? cacheHead + entrySize * entryCount c) 0
@@ -55,6 +56,7 @@ hasHash c h i = hashNumber c i ≡? h
 unfoldable pub entryOf : List ℕ → ℕ → ℕ
 entryOf c h = lowest (hasHash c h) (entryCount c)
 
+-- the directory's entry, its hash type and its category
 unfoldable pub lookupRows : List ℕ → ℕ → List Row
 lookupRows c h =
     row 26 (entryOf c h ≡? entryCount c) 0

@@ -1,4 +1,4 @@
--- Tests 24 to 30 in order: the cache's form, the directory's entry, and the constraints of that entry's category.
+-- Tests 24 to 30 in order.
 use Prim.Native.Nat.{ℕ}
 use mathlib.Core.List.{List, _++_}
 use Rattle.layout.specs.TrustCache.{categoryAt}
@@ -8,6 +8,7 @@ use Rattle.trustcache.specs.declared.launch.Launch.{Launch}
 use Rattle.trustcache.specs.Rows.{formRows, entryOf, lookupRows}
 use Rattle.trustcache.specs.Launch.{launchRows}
 
+-- the cache's form, the directory's entry, and the constraints of that entry's category
 unfoldable pub cacheRows : List ℕ → ℕ → Launch → List Row
 cacheRows c h facts = formRows c ++ (lookupRows c h ++ launchRows (categoryAt c (entryOf c h)) facts)
 

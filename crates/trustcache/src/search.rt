@@ -35,7 +35,7 @@ fn find_entry(c: &[u8], hash: [u8; 20]) -> usize
     entries
 }
 
-// Tests 26 to 28. The place of a 0 is the entry.
+// Tests 26 to 28. The place of a 0 is the entry. In a cache that 24 or 25 refuses, which entry is found is left open.
 pub fn lookup_tested(c: &[u8], hash: [u8; 20]) -> Answer
     ensures { λ r. ⌜ LookedUp (now (c .entry)) (asNumber hash) r ⌝ }
 {
