@@ -1,8 +1,6 @@
 pub mod Rows
 pub mod Launch
-pub mod Found
 pub mod Table
+pub mod Lookup
+pub mod Rules
 pub mod Bytes
-pub mod Order
-pub mod Search
-pub mod Exactly

@@ -4,9 +4,8 @@ use layout::cache::CacheHead;
 use layout::cache::hash_of;
 use refusals::Answer;
 ghost use mathlib.Core.Path.{_≡_};
-ghost use Rattle.endian.specs.Numbers.{big};
 ghost use Rattle.refusals.specs.Refusals.{holds, lowest, first, accepted};
-ghost use Rattle.trustcache.specs.Rows.{order, notAbove, formRows};
+ghost use Rattle.trustcache.specs.Rows.{asNumber, order, notAbove, formRows};
 
 // The most entries that a cache may have.
 const MOST_ENTRIES: usize = 65536;
@@ -20,7 +19,7 @@ pub const ABOVE: usize = 2;
 
 // How the hash x stands to the hash y. The first byte that differs decides.
 pub fn compare(x: &[u8], y: &[u8]) -> usize
-    ensures { λ r. ⌜ r ≡ order (big 20 (now (x .entry)) 0) (big 20 (now (y .entry)) 0) ⌝ }
+    ensures { λ r. ⌜ r ≡ order (asNumber (now (x .entry))) (asNumber (now (y .entry))) ⌝ }
 {
     let mut i = 0;
     while i < CacheEntry::HASH {

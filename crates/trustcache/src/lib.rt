@@ -14,14 +14,12 @@ use layout::cache::CacheEntry;
 use refusals::Answer;
 use search::lookup_tested;
 ghost use mathlib.Core.Path.{_≡_};
-ghost use Rattle.endian.specs.Numbers.{big};
-ghost use Rattle.refusals.specs.Refusals.{refuse, first};
-ghost use Rattle.trustcache.specs.Rows.{entryOf};
-ghost use Rattle.trustcache.specs.Table.{cacheRows};
+ghost use Rattle.trustcache.specs.Rows.{asNumber};
+ghost use Rattle.trustcache.specs.Table.{cacheAnswer};
 
 // Tests 24 to 30, of the directory whose hash begins with these 20 bytes. The place of a 0 is the directory's entry.
 pub fn tested(c: &[u8], hash: [u8; 20], facts: Launch) -> Answer
-    ensures { λ r. ⌜ r ≡ first (cacheRows (now (c .entry)) (big 20 hash 0) facts) (refuse 0 (entryOf (now (c .entry)) (big 20 hash 0))) ⌝ }
+    ensures { λ r. ⌜ r ≡ cacheAnswer (now (c .entry)) (asNumber hash) facts ⌝ }
 {
     let form = form_tested(c);
     if form.number != 0 {

@@ -4,15 +4,16 @@ use native.Mathlib.Omega.{arith}
 use Prim.Native.Nat.{_-_, _≤_}
 use mathlib.Core.Path.{_≡_}
 use Rattle.endian.specs.Numbers.{big}
-use Rattle.trustcache.specs.Order.{compare-below, compare-above, compare-none, compare-more, compare-equal}
+use Rattle.layout.specs.TrustCache.{cdhashLength}
+use Rattle.trustcache.proofs.Order.{compare-below, compare-above, compare-none, compare-more, compare-equal}
 use Rattle.trustcache.proofs.entries.compare.Statement.{statement}
 use Rattle.trustcache.proofs.entries.compare.Tie as tie
 
 abbrev Inv-loop : tie.InvT-loop
-Inv-loop x y i₀ i = (i ≤ 20) × (big i x 0 ≡ big i y 0)
+Inv-loop x y i₀ i = (i ≤ cdhashLength) × (big i x 0 ≡ big i y 0)
 
 abbrev μ-loop : tie.MeasureT-loop
-μ-loop x y i₀ i = 20 - i
+μ-loop x y i₀ i = cdhashLength - i
 
 loop-holds : tie.Need-loop-holds Inv-loop μ-loop
 loop-holds c = (omega arith, compare-none _ _)
@@ -26,13 +27,13 @@ byte-requires-2 c κs = search needs
 returns : tie.Need-returns Inv-loop μ-loop
 returns c =
     let b = c .before .before .before .before .before .before in
-    compare-below _ _ _ _ _ (omega arith) (c .before .before .before .before .loop .inv .1) (c .before .before .byte .ensures .0) (c .before .byte2 .ensures .0) (c .if1 .taken)
+    compare-below _ _ _ _ _ (c .before .before .before .before .loop .inv .1) (c .before .before .byte .ensures .0) (c .before .byte2 .ensures .0) (omega arith) (c .if1 .taken)
     (λ k. omega (arith, b .shared-slice-known .given k))
 
 returns-2 : tie.Need-returns-2 Inv-loop μ-loop
 returns-2 c =
     let b = c .before .before .before .before .before .before in
-    compare-above _ _ _ _ _ (omega arith) (c .before .before .before .before .before .loop .inv .1) (c .before .before .before .byte .ensures .0) (c .before .before .byte2 .ensures .0) (c .if2 .taken)
+    compare-above _ _ _ _ _ (c .before .before .before .before .before .loop .inv .1) (c .before .before .before .byte .ensures .0) (c .before .before .byte2 .ensures .0) (omega arith) (c .if2 .taken)
     (λ k. omega (arith, b .shared-slice-known2 .given k))
 
 add-i : tie.Need-add-i Inv-loop μ-loop

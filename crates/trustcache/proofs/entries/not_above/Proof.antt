@@ -1,6 +1,6 @@
 -- What `compare` says of the two hashes is what it says of their numbers.
 use native.Mathlib.Omega.{arith}
-use Rattle.trustcache.specs.Order.{compared-both, first-is-above, is-above, is-not-above}
+use Rattle.trustcache.proofs.Order.{compared-both, first-is-above, is-above, is-not-above}
 use borrow.Author.Needs.{needs}
 use Rattle.trustcache.proofs.entries.not_above.Statement.{statement}
 use Rattle.trustcache.proofs.entries.not_above.Tie as tie

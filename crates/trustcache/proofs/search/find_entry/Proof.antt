@@ -1,24 +1,24 @@
--- The entry that has the hash, if there is one, is among those that are left, and each comparison leaves at most half of them.
+-- The entry that has the hash, if there is one, is among those that are left, and each comparison leaves fewer of them.
 use borrow.Author.Needs.{needs}
 use native.Mathlib.Omega.{arith}
 use Prim.Native.Nat.{_-_}
-use Rattle.endian.specs.Numbers.{big}
-use Rattle.trustcache.specs.Order.{compared}
-use Rattle.trustcache.specs.Search.{Searching, search-all, search-fits, search-below, search-above, search-found, search-none}
+use Rattle.trustcache.specs.Rows.{asNumber}
+use Rattle.trustcache.proofs.Order.{compared}
+use Rattle.trustcache.proofs.Lookup.{Searching, search-all, search-below, search-above, search-found, search-none}
 use Rattle.trustcache.proofs.search.find_entry.Statement.{statement}
 use Rattle.trustcache.proofs.search.find_entry.Tie as tie
 
 abbrev Inv-loop : tie.InvT-loop
-Inv-loop c hash entries low₀ high₀ compared₀ low high compared = Searching c (big 20 hash 0) entries low high compared
+Inv-loop c hash entries low₀ high₀ low high = Searching c (asNumber hash) low high
 
 abbrev μ-loop : tie.MeasureT-loop
-μ-loop c hash entries low₀ high₀ compared₀ low high compared = high - low
+μ-loop c hash entries low₀ high₀ low high = high - low
 
 read-requires : tie.Need-read-requires Inv-loop μ-loop
 read-requires c κs = search needs
 
 loop-holds : tie.Need-loop-holds Inv-loop μ-loop
-loop-holds c = search-all _ _ _
+loop-holds c = search-all _ _ _ (c .read .ensures .entries-is)
 
 sub-middle : tie.Need-sub-middle Inv-loop μ-loop
 sub-middle c = omega arith
@@ -35,15 +35,12 @@ slice-aggregate-compare c = search needs
 compare-requires : tie.Need-compare-requires Inv-loop μ-loop
 compare-requires c κs = search needs
 
-add-compared : tie.Need-add-compared Inv-loop μ-loop
-add-compared c = let b = c .before .before .before .before in omega (arith, search-fits _ _ _ _ _ _ (b .loop .inv) (omega arith) (b .before .read .ensures .entries-below))
-
 returns : tie.Need-returns Inv-loop μ-loop
 returns c =
     let d = c .before in
     let b = d .before .before .before .before in
     let o = compared _ _ _ _ _ (d .before .before .hash-of .ensures) (d .compare .ensures) in
-    search-found _ _ _ _ _ _ (b .loop .inv) (omega arith) (b .before .read .ensures .entries-is) (o .equal (c .if1 .taken))
+    search-found _ _ _ _ (b .loop .inv) (omega arith) (o .equal (c .if1 .taken))
 
 add-low : tie.Need-add-low Inv-loop μ-loop
 add-low c = omega arith
@@ -56,7 +53,7 @@ loop-again c =
     let d = c .before .before in
     let b = d .before .before .before .before in
     let o = compared _ _ _ _ _ (d .before .before .hash-of .ensures) (d .compare .ensures) in
-    search-below _ _ _ _ _ _ (b .loop .inv) (omega arith) (o .below (c .if2 .taken))
+    search-below _ _ _ _ (b .loop .inv) (omega arith) (o .below (c .if2 .taken))
 
 loop-less-2 : tie.Need-loop-less-2 Inv-loop μ-loop
 loop-less-2 c = omega arith
@@ -66,10 +63,10 @@ loop-again-2 c =
     let d = c .before .before in
     let b = d .before .before .before .before in
     let o = compared _ _ _ _ _ (d .before .before .hash-of .ensures) (d .compare .ensures) in
-    search-above _ _ _ _ _ _ (b .loop .inv) (omega arith) (o .above (omega (arith, o .small)))
+    search-above _ _ _ _ (b .loop .inv) (omega arith) (o .above (omega (arith, o .small)))
 
 returns-2 : tie.Need-returns-2 Inv-loop μ-loop
-returns-2 c = search-none _ _ _ _ _ _ (c .before .loop .inv) (omega arith) (c .before .before .read .ensures .entries-is)
+returns-2 c = search-none _ _ _ _ _ (c .before .loop .inv) (omega arith) (c .before .before .read .ensures .entries-is)
 
 pub find-entry-spec : {M : Type 1} → statement M
 find-entry-spec =
@@ -84,7 +81,6 @@ find-entry-spec =
     hash-of-requires
     slice-aggregate-compare
     compare-requires
-    add-compared
     returns
     add-low
     loop-less

@@ -3,27 +3,29 @@ use Prim.Native.Nat.{ℕ, _+_, _-_, _<_, _≤_}
 use mathlib.Core.Bool.{Bool, true, false}
 use mathlib.Core.List.{List}
 use mathlib.Core.Path.{_≡_, refl, sym, ap, _∙_}
+use native.Mathlib.Nat.{zero-add}
 use native.Mathlib.Numerals.{add-one}
 use native.Mathlib.Omega.{arith}
 use lib.Dec.{ltb, eqb}
 use lib.ListN.{getD}
 use borrow.Author.Tests.{ltb-true, ltb-false, eqb-true, eqb-false}
 use Rattle.endian.specs.Numbers.{big}
-use Rattle.layout.specs.TrustCache.{hashAt}
+use Rattle.layout.specs.TrustCache.{cdhashLength, hashAt}
 use Rattle.refusals.specs.Refusals.{holds}
 use Rattle.refusals.proofs.Conditions.{says, pick-yes, pick-no}
-use Rattle.trustcache.specs.Rows.{hashNumber, order, notAbove}
-use Rattle.trustcache.specs.Bytes.{AllBytes, less-number, number-at}
+use Rattle.trustcache.specs.Rows.{asNumber, hashNumber, order, notAbove}
+use Rattle.trustcache.specs.Bytes.{AllBytes}
+use Rattle.trustcache.proofs.Bytes.{big-step, less-number}
 
-pub order-below : (x y : ℕ) → x < y → 0 ≡ order x y
+order-below : (x y : ℕ) → x < y → 0 ≡ order x y
 unfolding order
 order-below x y h = pick-yes _ _ _ _ h refl
 
-pub order-equal : (x y : ℕ) → x ≡ y → 1 ≡ order x y
+order-equal : (x y : ℕ) → x ≡ y → 1 ≡ order x y
 unfolding order
 order-equal x y e = pick-no _ _ _ _ (omega arith) (pick-yes _ _ _ _ e refl)
 
-pub order-above : (x y : ℕ) → y < x → 2 ≡ order x y
+order-above : (x y : ℕ) → y < x → 2 ≡ order x y
 unfolding order
 order-above x y h = pick-no _ _ _ _ (omega arith) (pick-no _ _ _ _ (omega arith) refl)
 
@@ -35,7 +37,7 @@ pub record Ordered (x y r : ℕ) : Type 0 where
   pub not-above : (r ≡ 2 → ⊥) → x ≤ y
   pub small : r ≤ 2
 
-pub ordered : (x y r : ℕ) → r ≡ order x y → Ordered x y r
+ordered : (x y r : ℕ) → r ≡ order x y → Ordered x y r
 ordered x y r e = by-test (ltb x y) refl (eqb x y) refl
   where
     by-test : (s : Bool) → ltb x y ≡ s → (t : Bool) → eqb x y ≡ t → Ordered x y r
@@ -54,39 +56,42 @@ ordered x y r e = by-test (ltb x y) refl (eqb x y) refl
         let o = order-above x y l in
         record { below = λ q. absurd (omega arith); equal = λ q. absurd (omega arith); above = λ q. l; not-above = λ q. absurd (q (omega arith)); small = omega arith }
 
--- A COMPARISON of 20 bytes that has found the first i equal
-
-pub compare-below : (x y : List ℕ) (i a b : ℕ) → i < 20 → big i x 0 ≡ big i y 0 → a ≡ getD x (0 + i) 0 → b ≡ getD y (0 + i) 0 → a < b → AllBytes x
-    → 0 ≡ order (big 20 x 0) (big 20 y 0)
-compare-below x y i a b l e p q h bytes =
-    order-below (big 20 x 0) (big 20 y 0) (less-number x 0 y 0 bytes 20 i l e (omega arith))
-
-pub compare-above : (x y : List ℕ) (i a b : ℕ) → i < 20 → big i x 0 ≡ big i y 0 → a ≡ getD x (0 + i) 0 → b ≡ getD y (0 + i) 0 → b < a → AllBytes y
-    → 2 ≡ order (big 20 x 0) (big 20 y 0)
-compare-above x y i a b l e p q h bytes =
-    order-above (big 20 x 0) (big 20 y 0) (less-number y 0 x 0 bytes 20 i l (sym e) (omega arith))
+-- A COMPARISON of two hashes that has found the first i bytes equal, and reads the next
 
 pub compare-none : (x y : List ℕ) → big 0 x 0 ≡ big 0 y 0
 unfolding big
 compare-none x y = refl
 
-pub compare-more : (x y : List ℕ) (i a b : ℕ) → big i x 0 ≡ big i y 0 → a ≡ getD x (0 + i) 0 → b ≡ getD y (0 + i) 0 → a ≡ b → big (i + 1) x 0 ≡ big (i + 1) y 0
-unfolding big
-compare-more x y i a b e p q h = rw (add-one i) (omega arith)
+module _ (x y : List ℕ) (i a b : ℕ) (e : big i x 0 ≡ big i y 0) (p : a ≡ getD x (0 + i) 0) (q : b ≡ getD y (0 + i) 0) where
+  left : a ≡ getD x i 0
+  left = p ∙ ap (λ (k : ℕ). getD x k 0) (zero-add i)
 
-pub compare-equal : (x y : List ℕ) (i : ℕ) → i ≡ 20 → big i x 0 ≡ big i y 0 → 1 ≡ order (big 20 x 0) (big 20 y 0)
-compare-equal x y i n e = order-equal (big 20 x 0) (big 20 y 0) (rw n at e)
+  right : b ≡ getD y i 0
+  right = q ∙ ap (λ (k : ℕ). getD y k 0) (zero-add i)
+
+  pub compare-below : i < cdhashLength → a < b → AllBytes x → 0 ≡ order (asNumber x) (asNumber y)
+  compare-below l h small =
+      order-below (asNumber x) (asNumber y) (less-number x y small cdhashLength i l e (omega (arith, left, right)))
+
+  pub compare-above : i < cdhashLength → b < a → AllBytes y → 2 ≡ order (asNumber x) (asNumber y)
+  compare-above l h small =
+      order-above (asNumber x) (asNumber y) (less-number y x small cdhashLength i l (sym e) (omega (arith, left, right)))
+
+  pub compare-more : a ≡ b → big (i + 1) x 0 ≡ big (i + 1) y 0
+  compare-more h = rw (add-one i) (omega (arith, left, right, big-step i x, big-step i y))
+
+pub compare-equal : (x y : List ℕ) (i : ℕ) → i ≡ cdhashLength → big i x 0 ≡ big i y 0 → 1 ≡ order (asNumber x) (asNumber y)
+compare-equal x y i n e = order-equal (asNumber x) (asNumber y) (rw n at e)
 
 -- COMPARED with an entry's hash, as the code lends it
 
-entry-number : (c x : List ℕ) (i : ℕ) → x ≡ hashAt c i → big 20 x 0 ≡ hashNumber c i
-entry-number c x i e = ap (λ (l : List ℕ). big 20 l 0) e ∙ sym (number-at c i)
+pub compared : (c x : List ℕ) (i r h : ℕ) → x ≡ hashAt c i → r ≡ order (asNumber x) h → Ordered (hashNumber c i) h r
+unfolding hashNumber
+compared c x i r h e o = ordered (asNumber (hashAt c i)) h r (o ∙ ap (λ (l : List ℕ). order (asNumber l) h) e)
 
-pub compared : (c x : List ℕ) (i r h : ℕ) → x ≡ hashAt c i → r ≡ order (big 20 x 0) h → Ordered (hashNumber c i) h r
-compared c x i r h e o = ordered (hashNumber c i) h r (o ∙ ap (λ (n : ℕ). order n h) (entry-number c x i e))
-
-pub compared-both : (c x y : List ℕ) (i j r : ℕ) → x ≡ hashAt c i → y ≡ hashAt c j → r ≡ order (big 20 x 0) (big 20 y 0) → Ordered (hashNumber c i) (hashNumber c j) r
-compared-both c x y i j r e f o = compared c x i r (hashNumber c j) e (o ∙ ap (order (big 20 x 0)) (entry-number c y j f))
+pub compared-both : (c x y : List ℕ) (i j r : ℕ) → x ≡ hashAt c i → y ≡ hashAt c j → r ≡ order (asNumber x) (asNumber y) → Ordered (hashNumber c i) (hashNumber c j) r
+unfolding hashNumber
+compared-both c x y i j r e f o = compared c x i r (asNumber (hashAt c j)) e (o ∙ ap (λ (l : List ℕ). order (asNumber x) (asNumber l)) f)
 
 -- the order test of entry i
 pub first-is-above : (c : List ℕ) (i : ℕ) → i ≡ 0 → false ≡ holds (notAbove c i)
@@ -95,8 +100,8 @@ first-is-above c i e = says false (notAbove c i) (λ z. absurd (omega arith))
 
 pub is-above : (c : List ℕ) (i r : ℕ) → Ordered (hashNumber c i) (hashNumber c (i - 1)) r → r ≡ 2 → false ≡ holds (notAbove c i)
 unfolding notAbove
-is-above c i r o e = let l = o .above e in says false (notAbove c i) (λ z. omega arith)
+is-above c i r o e = says false (notAbove c i) (λ z. o .above e)
 
 pub is-not-above : (c : List ℕ) (i r : ℕ) → Ordered (hashNumber c i) (hashNumber c (i - 1)) r → (i ≡ 0 → ⊥) → (r ≡ 2 → ⊥) → true ≡ holds (notAbove c i)
 unfolding notAbove
-is-not-above c i r o n e = let l = o .not-above e in says true (notAbove c i) (omega arith)
+is-not-above c i r o n e = says true (notAbove c i) (omega arith, o .not-above e)

@@ -1,0 +1,7 @@
+-- Laws, by subject.
+pub mod Bytes
+pub mod Order
+pub mod Form
+pub mod Lookup
+pub mod Constraints
+pub mod Listed

@@ -1,0 +1,40 @@
+-- The rules of the trust cache and of the launch constraints as plain conditions, with no order among them.
+use Prim.Native.Nat.{ℕ, _+_, _*_, _<_, _≤_}
+use mathlib.Core.Bool.{true, _||_}
+use mathlib.Core.List.{List}
+use mathlib.Core.Logic.{_⊎_}
+use mathlib.Core.Path.{_≡_}
+use lib.ListN.{length}
+use Rattle.layout.specs.CodeDirectory.{sha256Type}
+use Rattle.layout.specs.TrustCache.{versionTaken, cacheHead, entrySize, cacheVersion, entryCount, hashTypeAt, categoryAt}
+use Rattle.trustcache.specs.declared.launch.Launch.{Launch}
+use Rattle.trustcache.specs.Rows.{mostEntries, hashNumber}
+use Rattle.trustcache.specs.Launch.{unconstrainedCategory, constrainedCategory, launchTypeAsked, validationAsked}
+
+-- the cache is well formed
+pub record CacheFormed (c : List ℕ) : Type 0 where
+  pub has-head : cacheHead ≤ length c
+  pub version-two : cacheVersion c ≡ versionTaken
+  pub few-entries : entryCount c ≤ mostEntries
+  pub whole : length c ≡ cacheHead + entrySize * entryCount c
+  -- strictly increasing, for every two entries
+  pub increasing : (i j : ℕ) → i < j → j < entryCount c → hashNumber c i < hashNumber c j
+
+-- the launch meets the self and the parent constraint
+pub record Constrained (facts : Launch) : Type 0 where
+  pub volume : (facts .«on_authorized_volume» || facts .«on_system_volume») ≡ true
+  pub launch-type : facts .«launch_type» ≡ launchTypeAsked
+  pub validation : facts .«validation_category» ≡ validationAsked
+  pub parent : facts .«parent_is_init» ≡ true
+
+-- the category allows the launch
+abbrev pub Allowed : ℕ → Launch → Type 0
+Allowed category facts = (category ≡ unconstrainedCategory) ⊎ ((category ≡ constrainedCategory) × Constrained facts)
+
+-- an entry of a well-formed cache lists the hash h under SHA-256, and its category allows the launch
+pub record Listed (c : List ℕ) (h : ℕ) (facts : Launch) (entry : ℕ) : Type 0 where
+  pub form : CacheFormed c
+  pub below : entry < entryCount c
+  pub hash : hashNumber c entry ≡ h
+  pub type : hashTypeAt c entry ≡ sha256Type
+  pub constraints : Allowed (categoryAt c entry) facts
