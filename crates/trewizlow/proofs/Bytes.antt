@@ -79,7 +79,7 @@ lies s t z =
       is-blob = is-part s t;
     }
 
--- what a lookup shows
+-- what a lookup shows: the answer of tests 1 to 9, and where the blob lies, or 0 and 0
 pub record BlobShown (s : List ℕ) (t : ℕ) (r : BlobPart) : Type 0 where
   pub answer-is : refuse (r .number) (r .place) ≡ first (rows 0 s) accepted
   pub passed : r .number ≡ 0 → Lies s t (r .start) (r .length)
@@ -97,7 +97,7 @@ blob-shown s t =
 -- THE DIRECTORY
 
 -- what is shown of a directory that is read, of the part d of the signature
-pub record Shown (s d : List ℕ) (r : DirectoryFields) : Type 0 where
+pub record FieldsShown (s d : List ℕ) (r : DirectoryFields) : Type 0 where
   pub lies-at : Lies s 0 (r .start) (r .length)
   pub version-is : r .version ≡ big 4 d 8
   pub flags-is : r .flags ≡ big 4 d 12
@@ -113,12 +113,13 @@ pub record Shown (s d : List ℕ) (r : DirectoryFields) : Type 0 where
   -- P
   pub whole-limit : getD d 39 0 ≡ 0 → r .«page_size» ≡ r .«code_limit»
   pub power-of-two : (getD d 39 0 ≡ 0 → ⊥) → r .«page_size» ≡ 2 ^ r .«page_shift»
-  -- the identifier ends at its first zero byte
+  -- the identifier ends at its first zero byte, inside the directory
+  pub ident-inside : r .«ident_offset» + r .«ident_length» < r .length
   pub ident-ends : getD d (r .«ident_offset» + r .«ident_length») 0 ≡ 0
   pub ident-before : (i : ℕ) → i < r .«ident_length» → getD d (r .«ident_offset» + i) 0 ≡ 0 → ⊥
 
 -- .. and of one that is refused
-pub record Nothing (r : DirectoryFields) : Type 0 where
+pub record NoneShown (r : DirectoryFields) : Type 0 where
   pub start-is : r .start ≡ 0
   pub length-is : r .length ≡ 0
   pub version-is : r .version ≡ 0
@@ -135,10 +136,11 @@ pub record Nothing (r : DirectoryFields) : Type 0 where
   pub P-is : r .«page_size» ≡ 0
   pub identLength-is : r .«ident_length» ≡ 0
 
+-- what reading a signature shows: the answer of tests 1 to 18, and the one or the other
 pub record DirectoryShown (s : List ℕ) (r : DirectoryFields) : Type 0 where
   pub answer-is : refuse (r .number) (r .place) ≡ first (signatureRows 0 s) accepted
-  pub passed : r .number ≡ 0 → Shown s (blob s 0) r
-  pub refused : (r .number ≡ 0 → ⊥) → Nothing r
+  pub passed : r .number ≡ 0 → FieldsShown s (blob s 0) r
+  pub refused : (r .number ≡ 0 → ⊥) → NoneShown r
 
 limit-page : (d : List ℕ) → pageSize d ≡ 0 → P d ≡ codeLimit d
 unfolding P pageBytes pick holds
@@ -148,9 +150,9 @@ power-page : (d : List ℕ) → WellFormed d → (pageSize d ≡ 0 → ⊥) → 
 unfolding P pageBytes pick holds
 power-page d w n = ⊎-elim (λ e. absurd (n e)) (λ u. ⊎-elim (λ e. rw e) (λ e. rw e) u) (w .shift)
 
-shows : (s : List ℕ) → readAnswer s .number ≡ 0 → Shown s (blob s 0) (fieldsOf (readAnswer s) (blobStart s 0) (blob s 0))
+fields-shown : (s : List ℕ) → readAnswer s .number ≡ 0 → FieldsShown s (blob s 0) (fieldsOf (readAnswer s) (blobStart s 0) (blob s 0))
 unfolding version flags hashOffset identOffset nSpecialSlots nCodeSlots codeLimit hashSize hashType platform pageSize
-shows s z =
+fields-shown s z =
     let w = directory-read 0 s z .directory in
     record {
       lies-at = lies s 0 (superblob-passes 0 s z);
@@ -167,12 +169,13 @@ shows s z =
       pageSize-is = refl;
       whole-limit = limit-page (blob s 0);
       power-of-two = power-page (blob s 0) w;
+      ident-inside = w .ident-inside;
       ident-ends = w .ident-ends;
       ident-before = w .ident-before;
     }
 
-nothing : (s : List ℕ) → Nothing (noFields (readAnswer s))
-nothing s =
+none-shown : (s : List ℕ) → NoneShown (noFields (readAnswer s))
+none-shown s =
     record {
       start-is = refl;
       length-is = refl;
@@ -197,12 +200,13 @@ directory-shown s = by-test (readable s) refl
   where
     by-test : (b : Bool) → b ≡ readable s → DirectoryShown s (cond b (fieldsOf (readAnswer s) (blobStart s 0) (blob s 0)) (noFields (readAnswer s)))
     by-test true e =
-        record { answer-is = refl; passed = shows s; refused = λ n. absurd (n (said true (readAnswer s .number ≡? 0) e)) }
+        record { answer-is = refl; passed = fields-shown s; refused = λ n. absurd (n (said true (readAnswer s .number ≡? 0) e)) }
     by-test false e =
-        record { answer-is = refl; passed = λ z. absurd (said false (readAnswer s .number ≡? 0) e z); refused = λ n. nothing s }
+        record { answer-is = refl; passed = λ z. absurd (said false (readAnswer s .number ≡? 0) e z); refused = λ n. none-shown s }
 
 -- THE DIRECTORY'S HASH
 
+-- what is shown of it: the answer of tests 1 to 18, and the first 20 bytes of the digest of the whole blob, or zeros
 pub record HashShown (s : List ℕ) (r : DirectoryHash) : Type 0 where
   pub answer-is : refuse (r .number) (r .place) ≡ first (signatureRows 0 s) accepted
   pub passed : r .number ≡ 0 → r .hash ≡ take 20 (digest sha256 (blob s 0))
