@@ -3,10 +3,10 @@ ghost use mathlib.Core.Path.{_≡_};
 ghost use Rattle.digest.specs.Hash.{digest};
 ghost use Rattle.digest.specs.Sha256.{sha256};
 
-// Writes the SHA-256 digest of a part.
+// Writes the SHA-256 digest of a message.
 #[no_mangle]
-pub extern "C" fn trewizlow_digest(part: &[u8], out: &mut [u8; 32])
-    ensures { λ _. ⌜ now (out .exit) ≡ digest sha256 (now (part .entry)) ⌝ }
+pub extern "C" fn trewizlow_digest(message: &[u8], out: &mut [u8; 32])
+    ensures { λ _. ⌜ now (out .exit) ≡ digest sha256 (now (message .entry)) ⌝ }
 {
-    *out = digest::digest(part);
+    *out = digest::digest(message);
 }

@@ -1,23 +1,19 @@
--- The length of a part that is found, and numbers that are shown where tests 1 to 18 pass. Assumes nothing.
+-- The length of a part that is found, and what is shown where tests 1 to 18 pass. Assumes nothing.
 use Prim.Native.Nat.{ℕ, _-_}
-use mathlib.Core.Bool.{true, false}
+use mathlib.Core.Bool.{true, false, cond}
 use mathlib.Core.List.{List}
-use mathlib.Core.Path.{_≡_, refl, sym, ap, ap₂, _∙_}
+use mathlib.Core.Path.{_≡_, sym, ap, ap₂, _∙_}
 use native.Mathlib.Omega.{arith}
 use lib.ListN.{length, take, drop, replicate, length-drop}
 use lib.Seq.{length-take-le}
 use Rattle.refusals.specs.declared.Answer.{Answer}
-use Rattle.refusals.specs.Refusals.{_≡?_, refuse, accepted}
-use Rattle.refusals.proofs.Conditions.{says, pick-yes, pick-no}
-use Rattle.refusals.proofs.Exact.{passes, passed}
-use Rattle.directory.specs.Rows.{signatureRows, signatureRows-unused}
+use Rattle.refusals.specs.Refusals.{_≡?_}
+use Rattle.refusals.specs.Conditions.{says}
 use Rattle.digest.specs.Hash.{digest}
 use Rattle.digest.specs.Sha256.{sha256}
 use Rattle.superblob.specs.declared.Span.{Span}
 use Rattle.superblob.specs.Rows.{Found, blobStart, blobEnd, blob}
-use Rattle.trewizlow.specs.declared.DirectoryFields.{DirectoryFields}
-use Rattle.trewizlow.specs.declared.DirectoryHash.{DirectoryHash}
-use Rattle.trewizlow.specs.Interface.{readAnswer, shown, empty, DirectoryShown, FieldsShown, HashShown}
+use Rattle.trewizlow.specs.Interface.{readAnswer, readable, fieldsOf, noFields, directoryFields, hashWith, directoryHash}
 
 pub span-length : (s : List ℕ) (t : ℕ) (r : Span) → Found s t r → r .end - r .start ≡ length (blob s t)
 unfolding blob
@@ -26,75 +22,26 @@ span-length s t r f =
     ∙ sym (length-take-le (blobEnd s t - blobStart s t) (drop (blobStart s t) s)
     (omega (arith, length-drop (blobStart s t) s, f .start-is, f .end-is, f .within, f .ordered)))
 
--- 0 where the tests refuse, and the number where they pass
-pub shown-none : (s : List ℕ) (x : ℕ) → (readAnswer s .number ≡ 0 → ⊥) → 0 ≡ shown s x
-unfolding shown
-shown-none s x h = pick-no (readAnswer s .number ≡? 0) x 0 0 h refl
-
-pub shown-some : (s : List ℕ) (x v : ℕ) → readAnswer s .number ≡ 0 → v ≡ x → v ≡ shown s x
-unfolding shown
-shown-some s x v h e = pick-yes (readAnswer s .number ≡? 0) x 0 v h e
-
 module _ (s : List ℕ) (a : Answer) (e : a ≡ readAnswer s) where
-  not-zero : (a .number ≡ 0 → ⊥) → readAnswer s .number ≡ 0 → ⊥
-  not-zero h z = h (ap (λ (x : Answer). x .number) e ∙ z)
+  -- one of two where the tests pass, the other where they refuse
+  pub when-read : {A : Type 0} (x y : A) → a .number ≡ 0 → x ≡ cond (readable s) x y
+  when-read x y h = rw (← says true (readAnswer s .number ≡? 0) (sym (ap (λ (b : Answer). b .number) e) ∙ h))
 
-  pub refused-shown : (r : DirectoryFields) → r ≡ empty a → (a .number ≡ 0 → ⊥) → DirectoryShown s r
-  refused-shown r q h =
-      let n = not-zero h in
-      rw q
-      (record {
-        answer-is = e;
-        start-is = shown-none s _ n;
-        length-is = shown-none s _ n;
-        version-is = shown-none s _ n;
-        flags-is = shown-none s _ n;
-        hashOffset-is = shown-none s _ n;
-        identOffset-is = shown-none s _ n;
-        nSpecialSlots-is = shown-none s _ n;
-        nCodeSlots-is = shown-none s _ n;
-        hashSize-is = shown-none s _ n;
-        hashType-is = shown-none s _ n;
-        platform-is = shown-none s _ n;
-        pageSize-is = shown-none s _ n;
-        codeLimit-is = shown-none s _ n;
-        P-is = shown-none s _ n;
-        identLength-is = shown-none s _ n;
-      })
+  pub when-refused : {A : Type 0} (x y : A) → (a .number ≡ 0 → ⊥) → y ≡ cond (readable s) x y
+  when-refused x y h = rw (← says false (readAnswer s .number ≡? 0) (λ z. h (ap (λ (b : Answer). b .number) e ∙ z)))
 
-  is-zero : a .number ≡ 0 → readAnswer s .number ≡ 0
-  is-zero h = sym (ap (λ (x : Answer). x .number) e) ∙ h
+  pub fields-read : a .number ≡ 0 → fieldsOf a (blobStart s 0) (blob s 0) ≡ directoryFields s
+  unfolding directoryFields
+  fields-read h = ap (λ (b : Answer). fieldsOf b (blobStart s 0) (blob s 0)) e ∙ when-read _ _ h
 
-  is-accepted : a .number ≡ 0 → accepted ≡ readAnswer s
-  is-accepted h =
-      passes (signatureRows 0 s) accepted (passed (signatureRows 0 s) accepted 0 (signatureRows-unused 0 s) (is-zero h))
+  pub fields-refused : (a .number ≡ 0 → ⊥) → noFields a ≡ directoryFields s
+  unfolding directoryFields
+  fields-refused h = ap noFields e ∙ when-refused _ _ h
 
-  pub passed-shown : (r : DirectoryFields) → FieldsShown s r → a .number ≡ 0 → DirectoryShown s r
-  passed-shown r f h =
-      let z = is-zero h in
-      record {
-        answer-is = f .answer-is ∙ is-accepted h;
-        start-is = shown-some s _ _ z (f .start-is);
-        length-is = shown-some s _ _ z (f .length-is);
-        version-is = shown-some s _ _ z (f .version-is);
-        flags-is = shown-some s _ _ z (f .flags-is);
-        hashOffset-is = shown-some s _ _ z (f .hashOffset-is);
-        identOffset-is = shown-some s _ _ z (f .identOffset-is);
-        nSpecialSlots-is = shown-some s _ _ z (f .nSpecialSlots-is);
-        nCodeSlots-is = shown-some s _ _ z (f .nCodeSlots-is);
-        hashSize-is = shown-some s _ _ z (f .hashSize-is);
-        hashType-is = shown-some s _ _ z (f .hashType-is);
-        platform-is = shown-some s _ _ z (f .platform-is);
-        pageSize-is = shown-some s _ _ z (f .pageSize-is);
-        codeLimit-is = shown-some s _ _ z (f .codeLimit-is);
-        P-is = shown-some s _ _ z (f .P-is);
-        identLength-is = shown-some s _ _ z (f .identLength-is);
-      }
+  pub hash-read : a .number ≡ 0 → hashWith a (take 20 (digest sha256 (blob s 0))) ≡ directoryHash s
+  unfolding directoryHash
+  hash-read h = ap₂ hashWith e (when-read _ _ h)
 
-  pub refused-hash : (r : DirectoryHash) → refuse (r .number) (r .place) ≡ a → r .hash ≡ replicate 20 0 → (a .number ≡ 0 → ⊥) → HashShown s r
-  refused-hash r q g h =
-      record { answer-is = q ∙ e; hash-is = rw (← says false (readAnswer s .number ≡? 0) (not-zero h)) g }
-
-  pub passed-hash : (r : DirectoryHash) → refuse (r .number) (r .place) ≡ accepted → r .hash ≡ take 20 (digest sha256 (blob s 0)) → a .number ≡ 0 → HashShown s r
-  passed-hash r q g h =
-      record { answer-is = q ∙ is-accepted h; hash-is = rw (← says true (readAnswer s .number ≡? 0) (is-zero h)) g }
+  pub hash-refused : (a .number ≡ 0 → ⊥) → hashWith a (replicate 20 0) ≡ directoryHash s
+  unfolding directoryHash
+  hash-refused h = ap₂ hashWith e (when-refused _ _ h)

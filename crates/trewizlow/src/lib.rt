@@ -4,11 +4,11 @@ use layout::directory::CodeDirectory;
 use refusals::Answer;
 use trustcache::Launch;
 ghost use mathlib.Core.Path.{_≡_};
-ghost use Rattle.slots.specs.Slots.{sides};
+ghost use Rattle.superblob.specs.Rows.{blobStart, blob};
 ghost use Rattle.admission.specs.Input.{lent};
 ghost use Rattle.admission.specs.Check.{Checked};
 ghost use Rattle.admission.specs.Recheck.{recheck, Rechecked};
-ghost use Rattle.trewizlow.specs.Interface.{BlobFound, DirectoryShown, empty, FieldsShown, HashShown};
+ghost use Rattle.trewizlow.specs.Interface.{blobPart, fieldsOf, noFields, directoryFields, directoryHash};
 
 // The whole check.
 #[no_mangle]
@@ -38,18 +38,18 @@ pub extern "C" fn trewizlow_check(
     )
 }
 
-// The recheck of a range, lent the bytes of the pages that it meets.
+// The recheck of a range, lent the contents of the pages that it meets.
 #[no_mangle]
 pub extern "C" fn trewizlow_recheck(
     signature: &[u8],
     start: u64,
-    length: u64,
-    pages: &[u8],
+    size: u64,
+    contents: &[u8],
     marks: &mut [u8],
 ) -> Answer
-    ensures { λ r. ⌜ Rechecked (now (signature .entry)) (recheck start length (now (pages .entry))) (now (marks .entry)) r (now (marks .exit)) ⌝ }
+    ensures { λ r. ⌜ Rechecked (now (signature .entry)) (recheck start size (now (contents .entry))) (now (marks .entry)) r (now (marks .exit)) ⌝ }
 {
-    admission::recheck(signature, start, length, pages, marks)
+    admission::recheck(signature, start, size, contents, marks)
 }
 
 // What a lookup finds: the answer of tests 1 to 9, and where the blob lies, 0 and 0 where nothing is handed back.
@@ -62,11 +62,11 @@ pub struct BlobPart {
 }
 
 #[no_mangle]
-pub extern "C" fn trewizlow_find(signature: &[u8], kind: u32) -> BlobPart
-    ensures { λ r. ⌜ BlobFound (now (signature .entry)) kind r ⌝ }
+pub extern "C" fn trewizlow_find(signature: &[u8], slot_type: u32) -> BlobPart
+    ensures { λ r. ⌜ r ≡ blobPart (now (signature .entry)) «slot_type» ⌝ }
 {
     let answer = superblob::tested(signature, 0);
-    let span = superblob::find_span(signature, kind);
+    let span = superblob::find_span(signature, slot_type);
     BlobPart {
         number: answer.number,
         place: answer.place,
@@ -99,18 +99,18 @@ pub struct DirectoryFields {
 
 #[no_mangle]
 pub extern "C" fn trewizlow_read(signature: &[u8]) -> DirectoryFields
-    ensures { λ r. ⌜ DirectoryShown (now (signature .entry)) r ⌝ }
+    ensures { λ r. ⌜ r ≡ directoryFields (now (signature .entry)) ⌝ }
 {
     let answer = directory::tested(signature, 0);
     if answer.number != 0 {
         return no_fields(answer);
     }
-    fields(signature)
+    fields(answer, signature)
 }
 
 // A refusal: every field is 0.
 fn no_fields(answer: Answer) -> DirectoryFields
-    ensures { λ r. ⌜ r ≡ empty answer ⌝ }
+    ensures { λ r. ⌜ r ≡ noFields answer ⌝ }
 {
     DirectoryFields {
         number: answer.number,
@@ -133,9 +133,9 @@ fn no_fields(answer: Answer) -> DirectoryFields
     }
 }
 
-// The fields of a signature's directory.
-fn fields(signature: &[u8]) -> DirectoryFields
-    ensures { λ r. ⌜ FieldsShown (now (signature .entry)) r ⌝ }
+// The fields of a signature's directory, with the answer.
+fn fields(answer: Answer, signature: &[u8]) -> DirectoryFields
+    ensures { λ r. ⌜ r ≡ fieldsOf answer (blobStart (now (signature .entry)) 0) (blob (now (signature .entry)) 0) ⌝ }
 {
     let start = superblob::find_span(signature, CodeDirectory::TYPE).start;
     let d = superblob::find(signature, CodeDirectory::TYPE);
@@ -155,8 +155,8 @@ fn fields(signature: &[u8]) -> DirectoryFields
     let page_shift = head.page_shift as u8;
     let code_limit = head.code_limit;
     DirectoryFields {
-        number: 0,
-        place: 0,
+        number: answer.number,
+        place: answer.place,
         start,
         length: d.len(),
         version,
@@ -185,7 +185,7 @@ pub struct DirectoryHash {
 
 #[no_mangle]
 pub extern "C" fn trewizlow_cdhash(signature: &[u8]) -> DirectoryHash
-    ensures { λ r. ⌜ HashShown (now (signature .entry)) r ⌝ }
+    ensures { λ r. ⌜ r ≡ directoryHash (now (signature .entry)) ⌝ }
 {
     let answer = directory::tested(signature, 0);
     if answer.number != 0 {
@@ -197,8 +197,8 @@ pub extern "C" fn trewizlow_cdhash(signature: &[u8]) -> DirectoryHash
     }
     let hash = digest::cut(digest::digest(superblob::find(signature, CodeDirectory::TYPE)));
     DirectoryHash {
-        number: 0,
-        place: 0,
+        number: answer.number,
+        place: answer.place,
         hash,
     }
 }

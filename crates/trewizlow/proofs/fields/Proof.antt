@@ -1,10 +1,9 @@
 -- Each field is the one that the constructor or the reader gives, of the part that the lookup hands back. Assumes nothing.
-use mathlib.Core.Path.{refl, ap, _∙_}
+use mathlib.Core.Path.{ap, _∙_}
 use lib.ListN.{length}
-use Rattle.layout.specs.CodeDirectory.{version, flags, hashOffset, identOffset, nSpecialSlots, nCodeSlots, hashSize, hashType, platform, pageSize, codeLimit}
-use Rattle.directory.specs.Pages.{P}
-use Rattle.directory.specs.Rows.{identLength}
+use denote.Ref.{now}
 use borrow.Author.Needs.{needs}
+use Rattle.trewizlow.specs.Interface.{fieldsOf}
 use Rattle.trewizlow.proofs.fields.Statement.{statement}
 use Rattle.trewizlow.proofs.fields.Tie as tie
 
@@ -52,27 +51,32 @@ cast-page-shift c = record { fits = c .before .before .before .before .before .b
 
 returns : tie.Need-returns
 returns c =
-    let h = c .before .before .before .before .before .before .before .before .before .before .read2 .ensures in
-    let r = c .before .before .before .before .before .before .before .before .before .before .before .read .ensures in
-    let e = c .before .before .before .before .before .before .before .before .before .before .before .before .find .ensures in
+    let b = c .before .before .before .before .before .before .before .before .before .before in
+    let h = b .read2 .ensures in
+    let r = b .before .read .ensures in
+    let f = b .before .before .find in
+    let a = b .before .before .before .before .before .args .answer in
+    (λ i.
     record {
-      answer-is = refl;
-      start-is = c .before .before .before .before .before .before .before .before .before .before .before .before .before .find-span .ensures .start-is;
-      length-is = ap length e;
-      version-is = h .version-is ∙ ap version e;
-      flags-is = h .flags-is ∙ ap flags e;
-      hashOffset-is = h .hashOffset-is ∙ ap hashOffset e;
-      identOffset-is = h .identOffset-is ∙ ap identOffset e;
-      nSpecialSlots-is = h .nSpecialSlots-is ∙ ap nSpecialSlots e;
-      nCodeSlots-is = h .nCodeSlots-is ∙ ap nCodeSlots e;
-      hashSize-is = h .hashSize-is ∙ ap hashSize e;
-      hashType-is = h .hashType-is ∙ ap hashType e;
-      platform-is = h .platform-is ∙ ap platform e;
-      pageSize-is = h .pageSize-is ∙ ap pageSize e;
-      codeLimit-is = h .codeLimit-is ∙ ap codeLimit e;
-      P-is = r .P-is ∙ ap P e;
-      identLength-is = r .identLength-is ∙ ap identLength e;
-    }
+      number = a .number;
+      place = a .place;
+      start = b .before .before .before .find-span .ensures .start-is i;
+      length = length (now (f .result));
+      version = h .version-is i;
+      flags = h .flags-is i;
+      «hash_offset» = h .hashOffset-is i;
+      «ident_offset» = h .identOffset-is i;
+      «special_slots» = h .nSpecialSlots-is i;
+      «code_slots» = h .nCodeSlots-is i;
+      «hash_size» = h .hashSize-is i;
+      «hash_type» = h .hashType-is i;
+      platform = h .platform-is i;
+      «page_shift» = h .pageSize-is i;
+      «code_limit» = h .codeLimit-is i;
+      «page_size» = r .P-is i;
+      «ident_length» = r .identLength-is i;
+    })
+    ∙ ap (fieldsOf a _) (f .ensures)
 
 pub fields-spec : {M : Type 1} → statement M
 fields-spec =

@@ -1,9 +1,9 @@
 -- The same two ways as in reading: zeros, or the digest of the directory cut to 20. Assumes nothing.
-use mathlib.Core.Path.{_∙_}
-use Rattle.trewizlow.proofs.Laws.{refused-hash, passed-hash}
-use mathlib.Core.Path.{refl}
+use mathlib.Core.Path.{ap, _∙_}
 use native.Mathlib.Omega.{arith}
 use borrow.Author.Needs.{needs}
+use Rattle.trewizlow.specs.Interface.{hashWith}
+use Rattle.trewizlow.proofs.Laws.{hash-read, hash-refused}
 use Rattle.trewizlow.proofs.trewizlow_cdhash.Statement.{statement}
 use Rattle.trewizlow.proofs.trewizlow_cdhash.Tie as tie
 
@@ -11,7 +11,7 @@ tested-requires : tie.Need-tested-requires
 tested-requires c κs = search needs
 
 returns : tie.Need-returns
-returns c = refused-hash _ _ (c .before .before .tested .ensures) _ refl refl (omega arith)
+returns c = hash-refused _ _ (c .before .before .tested .ensures) (omega arith)
 
 find-requires : tie.Need-find-requires
 find-requires c κs = search needs
@@ -23,7 +23,9 @@ cut-requires : tie.Need-cut-requires
 cut-requires c κs = search needs
 
 returns-2 : tie.Need-returns-2
-returns-2 c = passed-hash _ _ (c .before .before .before .before .before .tested .ensures) _ refl (c .cut .ensures ∙ rw (c .before .digest .ensures, c .before .before .find .ensures)) (omega arith)
+returns-2 c =
+    ap (hashWith _) (c .cut .ensures ∙ rw (c .before .digest .ensures, c .before .before .find .ensures))
+    ∙ hash-read _ _ (c .before .before .before .before .before .tested .ensures) (omega arith)
 
 pub trewizlow-cdhash-spec : {M : Type 1} → statement M
 trewizlow-cdhash-spec =

@@ -1,0 +1,2 @@
+-- What the contract is held to.
+pub mod Contracts
