@@ -1,19 +1,20 @@
 -- Demand 3: chains of rechecks. One claim about the whole list of calls, beside a book that says which image they have examined.
 use Prim.Native.Nat.{ℕ, _+_, _*_, _<_, _≤_}
 use mathlib.Core.Bool.{Bool, true, false, cond, _&&_, _||_}
-use mathlib.Core.List.{List, [], _∷_}
-use mathlib.Core.Logic.{_⊎_}
+use mathlib.Core.List.{List, [], _∷_, _++_}
+use mathlib.Core.Logic.{_⊎_, _↔_}
 use mathlib.Core.Path.{_≡_}
-use lib.Dec.{eqb, ltb, leb}
+use lib.Dec.{eqb}
 use lib.ListN.{length, getD}
 use Rattle.refusals.specs.declared.Answer.{Answer}
 use Rattle.refusals.specs.Refusals.{refuse, accepted, first}
-use Rattle.pages.specs.Pages.{pageCount, pageOf, part, metFirst, metEnd, metStop, splice}
+use Rattle.pages.specs.Pages.{pageCount, pageOf, part, metFirst, metStop, splice}
 use Rattle.pages.specs.Marks.{agrees}
 use Rattle.admission.specs.declared.Verdict.{Verdict}
 use Rattle.admission.specs.Input.{Lent, withImage, pageBytesOf, limitOf, slotsOf}
 use Rattle.admission.specs.Check.{Checked, checkAnswer, checkMarks}
 use Rattle.admission.specs.Recheck.{Call, recheck, inputRows, Rechecked}
+use Rattle.admission.specs.Meets.{meets, metBy, Meets}
 
 -- THE BOOK
 
@@ -29,10 +30,6 @@ opened image = record { image = image; examined = λ i. true }
 -- a call is turned down for its input: 32 or 33; 0 where it is not
 unfoldable pub turnedDown : List ℕ → Call → ℕ
 turnedDown s c = first (inputRows s c) accepted .number
-
--- a range meets page i
-abbrev pub meets : List ℕ → ℕ → ℕ → ℕ → Bool
-meets s start size i = leb (metFirst (pageBytesOf s) start size) i && ltb i (metEnd (pageBytesOf s) start size)
 
 -- a recheck that examines: its lent bytes replace the pages met
 abbrev pub examine : List ℕ → Book → Call → Book
@@ -148,9 +145,57 @@ Faithful s image (call m ∷ es) = (turnedDown s (m .call) ≡ 0 → LentFrom s 
 
 -- a call examines page i
 abbrev pub examines : List ℕ → Call → ℕ → Bool
-examines s (recheck start size lent) i = eqb (turnedDown s (recheck start size lent)) 0 && meets s start size i
+examines s c i = eqb (turnedDown s c) 0 && metBy s c i
 
--- page i was altered after it was last examined; `b` says so of what was before
+-- PAGE BY PAGE
+
+-- page i of an image
+abbrev pub pageAt : List ℕ → List ℕ → ℕ → List ℕ
+pageAt s image i = pageOf (pageBytesOf s) (limitOf s) i image
+
+-- page i as it was when a call last examined it, `seen` where none of these does
+unfoldable pub lastSeen : List ℕ → ℕ → List ℕ → List ℕ → List Event → List ℕ
+lastSeen s i seen image [] = seen
+lastSeen s i seen image (change at new ∷ es) = lastSeen s i seen (splice image at new) es
+lastSeen s i seen image (call m ∷ es) = lastSeen s i (cond (examines s (m .call) i) (pageAt s image i) seen) image es
+
+-- page i as it was last examined, at first by the whole check
+abbrev pub examinedPage : List ℕ → List ℕ → List Event → ℕ → List ℕ
+examinedPage s image events i = lastSeen s i (pageAt s image i) image events
+
+-- p is the lowest page that differs from its slot
+pub record LowestDiffers (s : List ℕ) (page : ℕ → List ℕ) (p : ℕ) : Type 0 where
+  pub here : p < pageCount (pageBytesOf s) (limitOf s)
+  pub differs : agrees (slotsOf s) p (page p) ≡ false
+  pub before : (k : ℕ) → k < p → agrees (slotsOf s) k (page k) ≡ true
+
+-- what demand 2 gives for all pages: 0 with place 0 exactly when every page agrees with its slot, and 31 exactly with the lowest that differs
+pub record AnswersFor (s : List ℕ) (page : ℕ → List ℕ) (a : Answer) : Type 0 where
+  pub accepts : (a ≡ accepted) ↔ ((i : ℕ) → i < pageCount (pageBytesOf s) (limitOf s) → agrees (slotsOf s) i (page i) ≡ true)
+  pub refuses : (p : ℕ) → (a ≡ refuse 31 p) ↔ LowestDiffers s page p
+
+-- after a list of changes and rechecks, with `after` the marks that the whole check left
+pub record AsExamined (x : Lent) (after : List ℕ) (events : List Event) : Type 0 where
+  -- each page of the book's image is the page as it was last examined
+  pub page : (i : ℕ)
+      → pageAt (x .signature) (bookAfter (x .signature) (opened (x .image)) (calls (madeIn events)) .image) i
+      ≡ examinedPage (x .signature) (x .image) events i
+  -- each mark is the one that demand 2 gives for its page as it was last examined
+  pub mark : (i : ℕ) → i < pageCount (pageBytesOf (x .signature)) (limitOf (x .signature))
+      → getD (lastMarks after (madeIn events)) i 0 ≡ cond (agrees (slotsOf (x .signature)) i (examinedPage (x .signature) (x .image) events i)) 0 1
+  -- each recheck that is not turned down answers so for all pages so taken, those that it examines itself included
+  pub answer : (before rest : List Event) (m : Made) → events ≡ before ++ (call m ∷ rest) → turnedDown (x .signature) (m .call) ≡ 0
+      → AnswersFor (x .signature) (examinedPage (x .signature) (x .image) (before ++ (call m ∷ []))) (m .answer)
+
+-- of every list after a whole check that answered 0 or 31, whatever the changes wrote
+abbrev pub Pages : Type 0
+Pages = (x : Lent) (marks : List ℕ) (v : Verdict) (after : List ℕ) (events : List Event)
+    → Checked x marks v after → (v .number ≡ 0) ⊎ (v .number ≡ 31) → InTurn (x .signature) after (madeIn events)
+    → Faithful (x .signature) (x .image) events → AsExamined x after events
+
+-- THE WHOLE IMAGE
+
+-- the range of a change has met page i after it was last examined, whether or not a byte then differs; `b` says so of what was before
 unfoldable pub altered : List ℕ → ℕ → Bool → List Event → Bool
 altered s i b [] = b
 altered s i b (change at bytes ∷ es) = altered s i (meets s at (length bytes) i || b) es
@@ -170,4 +215,6 @@ Images = (x : Lent) (marks : List ℕ) (v : Verdict) (after : List ℕ) (events 
 
 pub record Demand3 : Type 0 where
   pub chains : Chains
+  pub pages : Pages
   pub images : Images
+  pub meets-shared : Meets
