@@ -28,36 +28,36 @@ use Rattle.admission.proofs.Outcomes.{ready, other-image, answer-passes
 -- A RECHECK THAT EXAMINES
 
 -- its range lies below the limit, and it is lent the bytes of the pages met
-pub input-passed : (s : List ℕ) (start size : ℕ) (lent : List ℕ) → turnedDown s (recheck start size lent) ≡ 0
-    → (start + size ≤ limitOf s) × (length lent ≡ wanted (pageBytesOf s) (limitOf s) start size)
+pub input-passed : (s : List ℕ) (start size : ℕ) (new : List ℕ) → turnedDown s (recheck start size new) ≡ 0
+    → (start + size ≤ limitOf s) × (length new ≡ wanted (pageBytesOf s) (limitOf s) start size)
 unfolding turnedDown inputRows
-input-passed s start size lent e =
-    range-passed (pageBytesOf s) (limitOf s) start size (length lent)
-    (passed (rangeRows (pageBytesOf s) (limitOf s) start size (length lent)) accepted 0 (range-unused (pageBytesOf s) (limitOf s) start size (length lent)) e)
+input-passed s start size new e =
+    range-passed (pageBytesOf s) (limitOf s) start size (length new)
+    (passed (rangeRows (pageBytesOf s) (limitOf s) start size (length new)) accepted 0 (range-unused (pageBytesOf s) (limitOf s) start size (length new)) e)
 
 -- it keeps the length of the book's image and the bytes past the limit ...
 examined-length : (s : List ℕ) (b : Book) (c : Call) → limitOf s ≤ length (b .image) → turnedDown s c ≡ 0 → length (examine s b c .image) ≡ length (b .image)
-examined-length s b (recheck start size lent) long e =
-    let h = input-passed s start size lent e in
-    spliced-length (pageBytesOf s) (limitOf s) (b .image) start size lent long (h .0) (h .1)
+examined-length s b (recheck start size new) long e =
+    let h = input-passed s start size new e in
+    spliced-length (pageBytesOf s) (limitOf s) (b .image) start size new long (h .0) (h .1)
 
 examined-past : (s : List ℕ) (b : Book) (c : Call) → limitOf s ≤ length (b .image) → turnedDown s c ≡ 0
     → drop (limitOf s) (examine s b c .image) ≡ drop (limitOf s) (b .image)
-examined-past s b (recheck start size lent) long e =
-    let h = input-passed s start size lent e in
-    spliced-past (pageBytesOf s) (limitOf s) (b .image) start size lent long (h .0) (h .1)
+examined-past s b (recheck start size new) long e =
+    let h = input-passed s start size new e in
+    spliced-past (pageBytesOf s) (limitOf s) (b .image) start size new long (h .0) (h .1)
 
 -- ... and the new marks are those of the image with its bytes put in
 examined-marks : (s : List ℕ) (b : Book) (c : Call) → Fit (pageBytesOf s) (limitOf s) → limitOf s ≤ length (b .image) → turnedDown s c ≡ 0
     → remarked s c (marksOf s (b .image)) ≡ marksOf s (examine s b c .image)
 unfolding remarked
-examined-marks s b (recheck start size lent) f long e =
-    let h = input-passed s start size lent e in
-    remarked-marks (pageBytesOf s) (limitOf s) (b .image) start size lent long (h .0) (h .1) (slotsOf s) f
+examined-marks s b (recheck start size new) f long e =
+    let h = input-passed s start size new e in
+    remarked-marks (pageBytesOf s) (limitOf s) (b .image) start size new long (h .0) (h .1) (slotsOf s) f
 
 -- no page gets unexamined
 examined-all : (s : List ℕ) (b : Book) (c : Call) (i : ℕ) → b .examined i ≡ true → examine s b c .examined i ≡ true
-examined-all s b (recheck start size lent) i e = or-true (meets s start size i) (b .examined i) e
+examined-all s b (recheck start size new) i e = or-true (meets s start size i) (b .examined i) e
   where
     or-true : (x y : Bool) → y ≡ true → (x || y) ≡ true
     or-true true y e = refl

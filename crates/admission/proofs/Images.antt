@@ -1,6 +1,6 @@
 -- Where no change has met a page after it was last examined, the page as it was last examined is the image's. So with no page altered the
 -- book's image has the image's pages; it has the same length and bytes past the limit too, and marks and the latest answer go by it.
-use Prim.Native.Nat.{ℕ, _≤_, _<_}
+use Prim.Native.Nat.{ℕ, _≤_}
 use mathlib.Core.Bool.{Bool, true, false, cond, _||_, true≢false}
 use mathlib.Core.List.{List, [], _∷_}
 use mathlib.Core.Path.{_≡_, refl, sym, _∙_}

@@ -3,7 +3,6 @@
 use Prim.Native.Nat.{ℕ, _<_}
 use mathlib.Core.Bool.{Bool, true, false, cond, _&&_, false≢true}
 use mathlib.Core.List.{List, [], _∷_, _++_}
-use mathlib.Core.Logic.{_↔_}
 use mathlib.Core.Path.{_≡_, refl, sym, ap, subst, _∙_}
 use native.Mathlib.Omega.{arith}
 use lib.Dec.{eqb}
@@ -14,7 +13,7 @@ use Rattle.refusals.specs.Refusals.{accepted, refuse, Passes}
 use Rattle.pages.specs.Pages.{pageCount}
 use Rattle.pages.specs.Marks.{agrees, markOf, judged}
 use Rattle.pages.specs.Marking.{marks-length, marks-at}
-use Rattle.pages.specs.Tests.{LowestBad, judged-bad, bad-judged, judged-good, good-judged}
+use Rattle.pages.specs.Tests.{judged-bad, bad-judged, judged-good, good-judged}
 use Rattle.pages.specs.Spliced.{page-unmet, page-lent}
 use Rattle.admission.specs.Input.{Lent, pageBytesOf, limitOf, slotsOf, marksOf}
 use Rattle.admission.specs.Check.{checkRows}

@@ -1,4 +1,5 @@
--- Demand 3: chains of rechecks. One claim about the whole list of calls, beside a book that says which image they have examined.
+-- Demand 3: chains of rechecks. Of the whole list of calls, beside a book that says which image they have examined; and of the whole list of
+-- calls and changes of the image, page by page and of the image as a whole.
 use Prim.Native.Nat.{ℕ, _+_, _*_, _<_, _≤_}
 use mathlib.Core.Bool.{Bool, true, false, cond, _&&_, _||_}
 use mathlib.Core.List.{List, [], _∷_, _++_}
@@ -33,9 +34,9 @@ turnedDown s c = first (inputRows s c) accepted .number
 
 -- a recheck that examines: its lent bytes replace the pages met
 abbrev pub examine : List ℕ → Book → Call → Book
-examine s b (recheck start size lent) =
+examine s b (recheck start size new) =
     record {
-      image = splice (b .image) (pageBytesOf s * metFirst (pageBytesOf s) start size) lent;
+      image = splice (b .image) (pageBytesOf s * metFirst (pageBytesOf s) start size) new;
       examined = λ i. meets s start size i || b .examined i;
     }
 
@@ -124,23 +125,23 @@ pub data Event : Type 0 where
 
 unfoldable pub imageAfter : List ℕ → List Event → List ℕ
 imageAfter image [] = image
-imageAfter image (change at bytes ∷ es) = imageAfter (splice image at bytes) es
+imageAfter image (change at new ∷ es) = imageAfter (splice image at new) es
 imageAfter image (call m ∷ es) = imageAfter image es
 
 abbrev pub madeIn : List Event → List Made
 madeIn [] = []
-madeIn (change at bytes ∷ es) = madeIn es
+madeIn (change at new ∷ es) = madeIn es
 madeIn (call m ∷ es) = m ∷ madeIn es
 
 -- a recheck is lent the image's bytes of the pages met
 abbrev pub LentFrom : List ℕ → List ℕ → Call → Type 0
-LentFrom s image (recheck start size lent) =
-    lent ≡ part image (pageBytesOf s * metFirst (pageBytesOf s) start size) (metStop (pageBytesOf s) (limitOf s) start size)
+LentFrom s image (recheck start size new) =
+    new ≡ part image (pageBytesOf s * metFirst (pageBytesOf s) start size) (metStop (pageBytesOf s) (limitOf s) start size)
 
 -- each change lies below the code limit, and each recheck that examines is lent the image's bytes of that time
 unfoldable pub Faithful : List ℕ → List ℕ → List Event → Type 0
 Faithful s image [] = Unit {0}
-Faithful s image (change at bytes ∷ es) = (at + length bytes ≤ limitOf s) × Faithful s (splice image at bytes) es
+Faithful s image (change at new ∷ es) = (at + length new ≤ limitOf s) × Faithful s (splice image at new) es
 Faithful s image (call m ∷ es) = (turnedDown s (m .call) ≡ 0 → LentFrom s image (m .call)) × Faithful s image es
 
 -- a call examines page i
@@ -198,7 +199,7 @@ Pages = (x : Lent) (marks : List ℕ) (v : Verdict) (after : List ℕ) (events :
 -- the range of a change has met page i after it was last examined, whether or not a byte then differs; `b` says so of what was before
 unfoldable pub altered : List ℕ → ℕ → Bool → List Event → Bool
 altered s i b [] = b
-altered s i b (change at bytes ∷ es) = altered s i (meets s at (length bytes) i || b) es
+altered s i b (change at new ∷ es) = altered s i (meets s at (length new) i || b) es
 altered s i b (call m ∷ es) = altered s i (cond (examines s (m .call) i) false b) es
 
 -- where no page was altered after it was last examined, the book's image is the image as it is now, and marks and the latest answer are those
