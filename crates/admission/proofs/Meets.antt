@@ -5,11 +5,10 @@ use mathlib.Core.Bool.{Bool, true, false, cond, _&&_, true≢false, false≢true
 use mathlib.Core.List.{List, _++_}
 use mathlib.Core.Logic.{_⊎_, inl, inr, ⊎-elim}
 use mathlib.Core.Path.{_≡_, refl, sym, ap, ap₂, _∙_}
-use native.Mathlib.Nat.{add-sub-of-le}
+use native.Mathlib.Nat.{add-zero, add-sub-of-le}
 use native.Mathlib.Omega.{arith}
 use lib.Dec.{ltb, leb}
-use lib.ListN.{length, getD, take, drop, length-append, List·getD-append}
-use lib.Seq.{length-take-le, getD-take, getD-drop, getD-append-add}
+use lib.ListN.{length, getD, take, drop}
 use borrow.Author.Tests.{ltb-true, ltb-false, leb-true, leb-false, lt-ltb, le-leb}
 use Rattle.refusals.specs.declared.Answer.{Answer}
 use Rattle.refusals.specs.Refusals.{accepted, first, Passes}
@@ -17,10 +16,10 @@ use Rattle.refusals.specs.Exact.{passes}
 use Rattle.directory.specs.Pages.{P}
 use Rattle.directory.specs.Rows.{signatureRows}
 use Rattle.directory.specs.Formed.{directory-read}
-use Rattle.pages.specs.Pages.{Fit, metFirst, metEnd}
+use Rattle.pages.specs.Pages.{Fit, part, metFirst, metEnd, splice}
 use Rattle.pages.specs.Marks as Marks
 use Rattle.pages.specs.Marks.{agrees, markOf, markIn, marksFrom}
-use Rattle.pages.specs.Lists.{tab-length, tab-at}
+use Rattle.pages.specs.Lists.{part-at, splice-before, splice-inside, splice-after, tab-length, tab-at}
 use Rattle.pages.specs.Marking.{RangeHere, cut-order, cut-within, remarked-length}
 use Rattle.pages.specs.Geometry.{fit-of, meets-exactly}
 use Rattle.admission.specs.Input.{pageBytesOf, limitOf, slotsOf}
@@ -65,54 +64,55 @@ meets-shared s start size i p h u =
 
 -- MARKS PUT IN
 
-module _ (old new : List ℕ) (first end : ℕ) (order : first ≤ end) (within : end ≤ length old) (long : length new ≡ end - first) where
-  abbrev placed : List ℕ
-  placed = take first old ++ new ++ drop end old
+-- two lists have one element where they have one part of length 1
+same-one : (l m : List ℕ) (i j : ℕ) → part l i (i + 1) ≡ part m j (j + 1) → getD l i 0 ≡ getD m j 0
+same-one l m i j e = sym (part-one l i) ∙ ap (λ (q : List ℕ). getD q 0 0) e ∙ part-one m j
+  where
+    part-one : (l : List ℕ) (i : ℕ) → getD (part l i (i + 1)) 0 0 ≡ getD l i 0
+    part-one l i = part-at l i (i + 1) 0 (omega arith) ∙ ap (λ (k : ℕ). getD l k 0) (add-zero i)
 
-  front-long : length (take first old) ≡ first
-  front-long = length-take-le first old (omega arith)
-
-  both-long : length (take first old ++ new) ≡ end
-  both-long = omega (arith, length-append (take first old) new, front-long)
-
-  placed-inside : (i : ℕ) → first ≤ i → i < end → getD placed i 0 ≡ getD new (i - first) 0
-  placed-inside i h u =
-      let j : length (take first old) + (i - first) ≡ i = omega (arith, front-long) in
-      List·getD-append (take first old ++ new) (drop end old) 0 i (omega (arith, both-long))
-      ∙ ap (λ (k : ℕ). getD (take first old ++ new) k 0) (sym j)
-      ∙ getD-append-add (take first old) new (i - first) 0
-
-  placed-outside : (i : ℕ) → (i < first) ⊎ (end ≤ i) → getD placed i 0 ≡ getD old i 0
-  placed-outside i (inl h) =
-      List·getD-append (take first old ++ new) (drop end old) 0 i (omega (arith, both-long))
-      ∙ List·getD-append (take first old) new 0 i (omega (arith, front-long))
-      ∙ getD-take first old i 0 h
-  placed-outside i (inr h) =
-      let j : length (take first old ++ new) + (i - end) ≡ i = omega (arith, both-long) in
-      ap (λ (k : ℕ). getD placed k 0) (sym j)
-      ∙ getD-append-add (take first old ++ new) (drop end old) (i - end) 0
-      ∙ getD-drop end old (i - end) 0
-      ∙ ap (λ (k : ℕ). getD old k 0) (add-sub-of-le h)
-
--- of a range that passes 32 and 33, with a mark for each page
+-- a range that passes 32 and 33, with a mark for each page
 module _ (p limit : ℕ) (slots : List ℕ) (start size : ℕ) (new marks : List ℕ) (h : RangeHere p limit slots start size new marks) where
-  remarked-met : (i : ℕ) → metFirst p start size ≤ i → i < metEnd p start size
-      → getD (Marks.remarked p limit slots start size new marks) i 0 ≡ markIn p limit slots (metFirst p start size) new i
-  unfolding Marks.remarked marksFrom
-  remarked-met i l u =
-      let f = markIn p limit slots (metFirst p start size) new in
-      let n = metEnd p start size - metFirst p start size in
-      placed-inside marks _ (metFirst p start size) (metEnd p start size) (cut-order p limit slots start size new marks h) (cut-within p limit slots start size new marks h)
-      (tab-length (metFirst p start size) n f) i l u
-      ∙ tab-at (metFirst p start size) n f (i - metFirst p start size) 0 (omega arith)
-      ∙ ap f (add-sub-of-le l)
+  abbrev begin : ℕ
+  begin = metFirst p start size
 
-  remarked-unmet : (i : ℕ) → (i < metFirst p start size) ⊎ (metEnd p start size ≤ i)
-      → getD (Marks.remarked p limit slots start size new marks) i 0 ≡ getD marks i 0
-  unfolding Marks.remarked marksFrom
+  abbrev end : ℕ
+  end = metEnd p start size
+
+  -- the marks of the pages met
+  abbrev put : List ℕ
+  put = marksFrom p limit slots begin (end - begin) new
+
+  put-end : begin + length put ≡ end
+  unfolding marksFrom
+  put-end = omega (arith, cut-order p limit slots start size new marks h, tab-length begin (end - begin) (markIn p limit slots begin new))
+
+  put-within : begin + length put ≤ length marks
+  put-within = omega (arith, put-end, cut-within p limit slots start size new marks h)
+
+  -- take the place of those before
+  put-in : Marks.remarked p limit slots start size new marks ≡ splice marks begin put
+  unfolding Marks.remarked
+  put-in = ap (λ (k : ℕ). take begin marks ++ put ++ drop k marks) (sym put-end)
+
+  remarked-met : (i : ℕ) → begin ≤ i → i < end → getD (Marks.remarked p limit slots start size new marks) i 0 ≡ markIn p limit slots begin new i
+  unfolding marksFrom
+  remarked-met i l u =
+      let n : i + 1 - begin ≡ i - begin + 1 = omega arith in
+      ap (λ (q : List ℕ). getD q i 0) put-in
+      ∙ same-one (splice marks begin put) put i (i - begin)
+      (splice-inside marks begin put put-within i (i + 1) l (omega (arith, put-end)) ∙ ap (part put (i - begin)) n)
+      ∙ tab-at begin (end - begin) (markIn p limit slots begin new) (i - begin) 0 (omega arith)
+      ∙ ap (markIn p limit slots begin new) (add-sub-of-le l)
+
+  remarked-unmet : (i : ℕ) → (i < begin) ⊎ (end ≤ i) → getD (Marks.remarked p limit slots start size new marks) i 0 ≡ getD marks i 0
   remarked-unmet i w =
-      placed-outside marks _ (metFirst p start size) (metEnd p start size) (cut-order p limit slots start size new marks h) (cut-within p limit slots start size new marks h)
-      (tab-length (metFirst p start size) (metEnd p start size - metFirst p start size) (markIn p limit slots (metFirst p start size) new)) i w
+      ap (λ (q : List ℕ). getD q i 0) put-in
+      ∙ same-one (splice marks begin put) marks i i
+      (⊎-elim
+      (λ u. splice-before marks begin put put-within i (i + 1) (omega arith))
+      (λ u. splice-after marks begin put put-within i (i + 1) (omega (arith, put-end)))
+      w)
 
 -- THE NEW MARKS OF A CALL, where the tests before the pages pass
 
