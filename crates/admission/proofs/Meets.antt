@@ -57,6 +57,7 @@ module _ (s : List ℕ) (start size i : ℕ) where
       by-test true e false f h = inr (ltb-false _ _ f)
       by-test true e true f h = absurd (true≢false h)
 
+-- so the pages met are those that share a byte with the range
 pub meets-shared : Meets
 meets-shared s start size i p h u =
     let e = meets-exactly (pageBytesOf s) (limitOf s) start size i (fit 0 s p) h u in
@@ -73,6 +74,7 @@ same-one l m i j e = sym (part-one l i) ∙ ap (λ (q : List ℕ). getD q 0 0) e
 
 -- a range that passes 32 and 33, with a mark for each page
 module _ (p limit : ℕ) (slots : List ℕ) (start size : ℕ) (new marks : List ℕ) (h : RangeHere p limit slots start size new marks) where
+  -- the first page met, and the page behind the last
   abbrev begin : ℕ
   begin = metFirst p start size
 

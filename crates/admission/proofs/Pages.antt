@@ -38,7 +38,7 @@ agrees-not-one : (b : Bool) → b ≡ true → cond {A = ℕ} b 0 1 ≡ 1 → �
 agrees-not-one true e h = omega arith
 agrees-not-one false e h = false≢true e
 
--- of marks that are those of the pages given
+-- of marks that are those of the pages given: 0 exactly where all agree, 31 exactly at the lowest that differs
 module _ (s : List ℕ) (page : ℕ → List ℕ) (marks : List ℕ) (long : length marks ≡ pageCount (pageBytesOf s) (limitOf s))
     (mark : (i : ℕ) → i < pageCount (pageBytesOf s) (limitOf s) → getD marks i 0 ≡ cond (agrees (slotsOf s) i (page i)) 0 1) where
   all-agree : judged marks 0 ≡ accepted → (i : ℕ) → i < pageCount (pageBytesOf s) (limitOf s) → agrees (slotsOf s) i (page i) ≡ true
@@ -115,6 +115,7 @@ module _ (x : Lent) (n : ℕ) (p : Passes (checkRows x (length (x .image)) n)) w
 
   -- THE LIST, by induction
 
+  -- each page of the book's image after it
   page-list : (b : Book) → Held x b → (i : ℕ) (seen image : List ℕ) (events : List Event) → pageAt s (b .image) i ≡ seen → Faithful s image events
       → pageAt s (bookAfter s b (calls (madeIn events)) .image) i ≡ lastSeen s i seen image events
   unfolding bookAfter lastSeen Faithful
@@ -134,6 +135,7 @@ module _ (x : Lent) (n : ℕ) (p : Passes (checkRows x (length (x .image)) n)) w
       (answers-judged s page (marksOf s (next .image)) (marks-length (pageBytesOf s) (limitOf s) (slotsOf s) (next .image))
       (λ i u. marked s (next .image) i u _ _ refl (q i)))
 
+  -- each recheck in it, by the list up to that recheck
   answer-list : (b : Book) → Held x b → (seen : ℕ → List ℕ) (image : List ℕ) (before rest : List Event) (m : Made)
       → ((i : ℕ) → pageAt s (b .image) i ≡ seen i) → Faithful s image (before ++ (call m ∷ rest)) → Kept x n b (madeIn (before ++ (call m ∷ rest)))
       → turnedDown s (m .call) ≡ 0 → AnswersFor s (λ i. lastSeen s i (seen i) image (before ++ (call m ∷ []))) (m .answer)
