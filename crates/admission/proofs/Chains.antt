@@ -7,50 +7,57 @@ use mathlib.Core.Logic.{_⊎_}
 use mathlib.Core.Path.{_≡_, refl, sym, ap, subst, _∙_}
 use native.Mathlib.Omega.{arith}
 use lib.Dec.{eqb}
-use lib.ListN.{length}
+use lib.ListN.{length, drop}
 use borrow.Author.Tests.{eqb-true}
 use Rattle.refusals.specs.declared.Answer.{Answer}
 use Rattle.refusals.specs.Refusals.{refuse, accepted, Passes}
-use Rattle.refusals.proofs.Exact.{passed}
+use Rattle.refusals.specs.Exact.{passed}
 use Rattle.pages.specs.Pages.{Fit, pageCount, wanted, rangeRows}
 use Rattle.pages.specs.Marks.{markOf, markRows, judged}
-use Rattle.pages.proofs.Tests.{range-unused, range-passed}
-use Rattle.pages.proofs.Marking.{marks-length, marks-at, marks-pass}
-use Rattle.pages.proofs.Spliced.{spliced-length, remarked-marks}
+use Rattle.pages.specs.Tests.{range-unused, range-passed}
+use Rattle.pages.specs.Marking.{marks-length, marks-at, marks-pass}
+use Rattle.pages.specs.Spliced.{spliced-length, spliced-past, remarked-marks}
 use Rattle.admission.specs.declared.Verdict.{Verdict}
 use Rattle.admission.specs.Input.{Lent, withImage, pageBytesOf, limitOf, slotsOf, marksOf}
 use Rattle.admission.specs.Check.{countRows, checkRows, checkAnswer, CheckOutcome, checkOf, Checked}
 use Rattle.admission.specs.Recheck.{Call, recheck, inputRows, remarked, callAnswer, callMarks, CallOutcome, callOf, Rechecked}
-use Rattle.admission.specs.Demand3.{Book, opened, turnedDown, meets, examine, bookAfter1, bookAfter, placeless, wholeAnswer, due, Made, calls, InTurn, Marked, Kept, lastMarks, latest, answerOf, Chains}
+use Rattle.admission.specs.Demand3.{Book, opened, turnedDown, examine, bookAfter1, bookAfter, placeless, wholeAnswer, due, Made, calls, InTurn, Marked, Kept, lastMarks, latest, answerOf, Chains}
+use Rattle.admission.specs.Meets.{meets}
 use Rattle.admission.proofs.Outcomes.{ready, other-image, answer-passes, whole-answer, whole-marks, placeless-judged, call-answer, call-marks, turned-first}
 
 -- A RECHECK THAT EXAMINES
 
 -- its range lies below the limit, and it is lent the bytes of the pages met
-pub input-passed : (s : List ℕ) (start size : ℕ) (lent : List ℕ) → turnedDown s (recheck start size lent) ≡ 0
-    → (start + size ≤ limitOf s) × (length lent ≡ wanted (pageBytesOf s) (limitOf s) start size)
+pub input-passed : (s : List ℕ) (start size : ℕ) (new : List ℕ) → turnedDown s (recheck start size new) ≡ 0
+    → (start + size ≤ limitOf s) × (length new ≡ wanted (pageBytesOf s) (limitOf s) start size)
 unfolding turnedDown inputRows
-input-passed s start size lent e =
-    range-passed (pageBytesOf s) (limitOf s) start size (length lent)
-    (passed (rangeRows (pageBytesOf s) (limitOf s) start size (length lent)) accepted 0 (range-unused (pageBytesOf s) (limitOf s) start size (length lent)) e)
+input-passed s start size new e =
+    range-passed (pageBytesOf s) (limitOf s) start size (length new)
+    (passed (rangeRows (pageBytesOf s) (limitOf s) start size (length new)) accepted 0 (range-unused (pageBytesOf s) (limitOf s) start size (length new)) e)
 
--- it keeps the length of the book's image ...
+-- it keeps the length of the book's image and the bytes past the limit ...
 examined-length : (s : List ℕ) (b : Book) (c : Call) → limitOf s ≤ length (b .image) → turnedDown s c ≡ 0 → length (examine s b c .image) ≡ length (b .image)
-examined-length s b (recheck start size lent) long e =
-    let h = input-passed s start size lent e in
-    spliced-length (pageBytesOf s) (limitOf s) (b .image) start size lent long (h .0) (h .1)
+examined-length s b (recheck start size new) long e =
+    let h = input-passed s start size new e in
+    spliced-length (pageBytesOf s) (limitOf s) (b .image) start size new long (h .0) (h .1)
+
+examined-past : (s : List ℕ) (b : Book) (c : Call) → limitOf s ≤ length (b .image) → turnedDown s c ≡ 0
+    → drop (limitOf s) (examine s b c .image) ≡ drop (limitOf s) (b .image)
+examined-past s b (recheck start size new) long e =
+    let h = input-passed s start size new e in
+    spliced-past (pageBytesOf s) (limitOf s) (b .image) start size new long (h .0) (h .1)
 
 -- ... and the new marks are those of the image with its bytes put in
 examined-marks : (s : List ℕ) (b : Book) (c : Call) → Fit (pageBytesOf s) (limitOf s) → limitOf s ≤ length (b .image) → turnedDown s c ≡ 0
     → remarked s c (marksOf s (b .image)) ≡ marksOf s (examine s b c .image)
 unfolding remarked
-examined-marks s b (recheck start size lent) f long e =
-    let h = input-passed s start size lent e in
-    remarked-marks (pageBytesOf s) (limitOf s) (b .image) start size lent long (h .0) (h .1) (slotsOf s) f
+examined-marks s b (recheck start size new) f long e =
+    let h = input-passed s start size new e in
+    remarked-marks (pageBytesOf s) (limitOf s) (b .image) start size new long (h .0) (h .1) (slotsOf s) f
 
 -- no page gets unexamined
 examined-all : (s : List ℕ) (b : Book) (c : Call) (i : ℕ) → b .examined i ≡ true → examine s b c .examined i ≡ true
-examined-all s b (recheck start size lent) i e = or-true (meets s start size i) (b .examined i) e
+examined-all s b (recheck start size new) i e = or-true (meets s start size i) (b .examined i) e
   where
     or-true : (x y : Bool) → y ≡ true → (x || y) ≡ true
     or-true true y e = refl
@@ -71,14 +78,16 @@ book-stays s b c e = rw e
 marks-count : (s image : List ℕ) → length (marksOf s image) ≡ pageCount (pageBytesOf s) (limitOf s)
 marks-count s image = marks-length (pageBytesOf s) (limitOf s) (slotsOf s) image
 
--- beside what the starting check was lent: its image is as long as the checked one, and all its pages were examined
+-- beside what the starting check was lent: its image is as long as the checked one with the same bytes past the limit, and all its pages
+-- were examined
 pub record Held (x : Lent) (b : Book) : Type 0 where
   pub long : length (b .image) ≡ length (x .image)
+  pub past : drop (limitOf (x .signature)) (b .image) ≡ drop (limitOf (x .signature)) (x .image)
   pub seen : (i : ℕ) → b .examined i ≡ true
 
 -- so at first
 pub held-opened : (x : Lent) → Held x (opened (x .image))
-held-opened x = record { long = refl; seen = λ i. refl }
+held-opened x = record { long = refl; past = refl; seen = λ i. refl }
 
 -- its marks, as the claim has them
 held-marked : (x : Lent) (b : Book) → Held x b → Marked (x .signature) b (marksOf (x .signature) (b .image))
@@ -92,21 +101,21 @@ held-marked x b h =
 
 module _ (x : Lent) (n : ℕ) (p : Passes (checkRows x (length (x .image)) n)) where
   -- its image reaches the limit
-  held-long : (b : Book) → Held x b → limitOf (x .signature) ≤ length (b .image)
+  pub held-long : (b : Book) → Held x b → limitOf (x .signature) ≤ length (b .image)
   held-long b h = omega (arith, ready x (length (x .image)) n p .long, h .long)
 
   -- a whole check of its image passes tests 1 to 30 too, and so answers by the image's marks
   pub held-passes : (b : Book) → Held x b → Passes (checkRows (withImage x (b .image)) (length (b .image)) n)
   held-passes b h = rw (other-image x (b .image) (length (b .image)) n, h .long) p
 
-  held-answer : (b : Book) → Held x b → wholeAnswer x n b ≡ judged (marksOf (x .signature) (b .image)) 0
+  pub held-answer : (b : Book) → Held x b → wholeAnswer x n b ≡ judged (marksOf (x .signature) (b .image)) 0
   unfolding wholeAnswer
   held-answer b h = ap placeless (whole-answer (withImage x (b .image)) n (held-passes b h)) ∙ placeless-judged _ _
 
   -- ONE CALL, from the marks of the book's image
   module _ (b : Book) (h : Held x b) (c : Call) where
     -- the book stays held
-    held-after : Held x (bookAfter1 (x .signature) b c)
+    pub held-after : Held x (bookAfter1 (x .signature) b c)
     held-after = by-test (eqb (turnedDown (x .signature) c) 0) refl
       where
         by-test : (t : Bool) → eqb (turnedDown (x .signature) c) 0 ≡ t → Held x (bookAfter1 (x .signature) b c)
@@ -114,6 +123,7 @@ module _ (x : Lent) (n : ℕ) (p : Passes (checkRows x (length (x .image)) n)) w
             rw (book-examined (x .signature) b c e)
             (record {
               long = examined-length (x .signature) b c (held-long b h) (eqb-true _ _ e) ∙ h .long;
+              past = examined-past (x .signature) b c (held-long b h) (eqb-true _ _ e) ∙ h .past;
               seen = λ i. examined-all (x .signature) b c i (h .seen i);
             })
         by-test false e = rw (book-stays (x .signature) b c e) h

@@ -1,19 +1,21 @@
 -- Demand 2. A whole check answers 0 exactly when no row of its table holds; group by group the rows pass exactly where the rules hold
 -- (SignatureRules, SlotRules, CacheRules, PageRules). Where a row holds, exactness of a table with distinct numbers says which is given.
 use Prim.Native.Nat.{ℕ, _<_, _≤_}
-use mathlib.Core.Bool.{true, cond}
+use mathlib.Core.Bool.{Bool, true, false, cond}
 use mathlib.Core.List.{List, _++_}
 use mathlib.Core.Logic.{_⊎_, ⊎-elim, _↔_}
 use mathlib.Core.Path.{_≡_, refl, sym, ap, subst, _∙_}
+use lib.Dec.{eqb}
 use lib.ListN.{length, getD, take}
+use borrow.Author.Tests.{eqb-true}
 use Rattle.endian.specs.Numbers.{big}
 use Rattle.digest.specs.Hash.{digest}
 use Rattle.digest.specs.Sha256.{sha256}
 use Rattle.refusals.specs.declared.Answer.{Answer}
-use Rattle.refusals.specs.Refusals.{_≡?_, Row, refuse, accepted, first, Passes, Decides}
-use Rattle.refusals.proofs.Conditions.{says}
-use Rattle.refusals.proofs.Exact.{Unused, Distinct, passes, passed, decides, decided}
-use Rattle.refusals.proofs.Joined.{first-append, append-passes, passes-append}
+use Rattle.refusals.specs.Refusals.{_≡?_, holds, Row, refuse, accepted, first, Passes, Decides}
+use Rattle.refusals.specs.Conditions.{says}
+use Rattle.refusals.specs.Exact.{Unused, Distinct, passes, passed, decides, decided}
+use Rattle.refusals.specs.Joined.{first-append, append-passes, passes-append}
 use Rattle.layout.specs.CodeDirectory.{nCodeSlots, codeLimit}
 use Rattle.superblob.specs.Rows.{headRows, indexRows, rows, position, blob}
 use Rattle.directory.specs.Rows.{fieldRows, slotRows, blobRows, directoryRows, signatureRows}
@@ -24,7 +26,7 @@ use Rattle.trustcache.specs.Launch.{launchRows}
 use Rattle.trustcache.specs.Table.{cacheRows}
 use Rattle.pages.specs.Pages.{pageCount, pageOf, rangeRows}
 use Rattle.pages.specs.Marks.{agrees, markOf, markRows, badRows}
-use Rattle.pages.proofs.Marking.{marks-at, marks-length}
+use Rattle.pages.specs.Marking.{marks-at, marks-length}
 use Rattle.admission.specs.Input.{Lent, longest, cdhash, pageBytesOf, limitOf, slotsOf, marksOf}
 use Rattle.admission.specs.Check.{imageRows, countRows, checkRows, entryFor, checkTable, checkAnswer, checkMarks, verdictOf, CheckOutcome, checkOf}
 use Rattle.admission.specs.Recheck.{Call, recheck, inputRows, callRows, remarked, callAnswer, callMarks, CallOutcome, callOf}
@@ -35,6 +37,7 @@ use Rattle.admission.proofs.SignatureRules.{sides-short, SignatureForme
 use Rattle.admission.proofs.SlotRules.{sealed-rule, rule-sealed}
 use Rattle.admission.proofs.CacheRules.{Listed, listed, entry-found, listed-passes}
 use Rattle.admission.proofs.PageRules.{PagesAgree, good-pages, pages-good}
+use Rattle.admission.proofs.Meets.{call-long, call-unmet, call-met}
 
 -- THE RULES, of the directory d and with an entry of the cache
 
@@ -293,6 +296,15 @@ module _ (s : List ℕ) (c : Call) (marks : List ℕ) where
   unfolding callMarks
   call-left p = rw (← says true (first tests accepted .number ≡? 0) (sym (ap (λ (a : Answer). a .number) (passes tests accepted p))))
 
+  -- and else those before, so that what both have the marks left have
+  call-either : (Has : List ℕ → Type 0) → Unused tests 0 → (Passes tests → Has (remarked s c marks)) → Has marks → Has (callMarks s c marks)
+  unfolding callMarks holds
+  call-either Has unused new old = by-test (eqb (first tests accepted .number) 0) refl
+    where
+      by-test : (b : Bool) → eqb (first tests accepted .number) 0 ≡ b → Has (cond b (remarked s c marks) marks)
+      by-test true e = new (passed tests accepted 0 unused (eqb-true _ _ e))
+      by-test false e = old
+
 call-numbers : (s : List ℕ) (c : Call) (marks : List ℕ) → CallNumbers s c marks
 unfolding callRows inputRows rangeRows markRows signatureRows rows headRows indexRows directoryRows blobRows fieldRows slotRows countRows badRows
 call-numbers s (recheck start size lent) marks = record { no-zero = tt; distinct = tt; tests-no-zero = tt; tests-no-31 = tt }
@@ -304,12 +316,18 @@ recheck2 s c marks =
     let table = callRows s c marks ++ badRows (remarked s c marks) in
     let n = call-numbers s c marks in
     let zero = zero-exactly table accepted (n .no-zero) (n .distinct) refl in
+    let tests-pass : (callAnswer s c marks .number ≡ 0) ⊎ (callAnswer s c marks .number ≡ 31) → Passes (callRows s c marks) =
+    ⊎-elim (tests-passed s c marks 0 (n .tests-no-zero)) (tests-passed s c marks 31 (n .tests-no-31)) in
     record {
       accepts = zero;
       place = λ e. sym (ap (λ (a : Answer). a .place) (passes table accepted (zero .0 e)));
       refuses = number-exactly table accepted (n .no-zero) (n .distinct) refl;
-      marks-written =
-          λ e. call-left s c marks (⊎-elim (tests-passed s c marks 0 (n .tests-no-zero)) (tests-passed s c marks 31 (n .tests-no-31)) e);
+      marks-written = λ e. call-left s c marks (tests-pass e);
+      marks-long = call-either s c marks (λ l. length l ≡ length marks) (n .tests-no-zero) (call-long s c marks) refl;
+      unmet-stays =
+          λ i m. call-either s c marks (λ l. getD l i 0 ≡ getD marks i 0) (n .tests-no-zero) (λ p. call-unmet s c marks p i m) refl;
+      met-written =
+          λ e i m. ap (λ (l : List ℕ). getD l i 0) (call-left s c marks (tests-pass e)) ∙ call-met s c marks (tests-pass e) i m;
     }
 
 pub demand2 : Demand2

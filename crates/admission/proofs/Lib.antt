@@ -4,7 +4,9 @@ pub mod Tests
 pub mod Calls
 pub mod Contracts
 pub mod Outcomes
+pub mod Meets
 pub mod Chains
+pub mod Pages
 pub mod Images
 pub mod Demand1
 pub mod Demand3

@@ -1,7 +1,7 @@
 -- Demand 2: an image is accepted exactly when every rule holds, and each refusal is given exactly when its own condition is the first to
 -- hold.
 use Prim.Native.Nat.{ℕ, _<_}
-use mathlib.Core.Bool.{cond}
+use mathlib.Core.Bool.{true, false, cond}
 use mathlib.Core.List.{List, _++_}
 use mathlib.Core.Logic.{_⊎_, _↔_}
 use mathlib.Core.Path.{_≡_}
@@ -14,6 +14,7 @@ use Rattle.admission.specs.declared.Verdict.{Verdict}
 use Rattle.admission.specs.Input.{Lent, pageBytesOf, limitOf, slotsOf}
 use Rattle.admission.specs.Check.{Checked, checkTable, verdictOf}
 use Rattle.admission.specs.Recheck.{Call, Rechecked, callRows, remarked}
+use Rattle.admission.specs.Meets.{metBy, lentPage}
 use Rattle.admission.specs.Admissible.{Admissible}
 
 -- a whole check
@@ -37,6 +38,12 @@ pub record Recheck2 (s : List ℕ) (c : Call) (marks : List ℕ) (a : Answer) (a
   pub refuses : (n p : ℕ) → (n ≡ 0 → ⊥) → (a ≡ refuse n p) ↔ Decides (callRows s c marks ++ badRows (remarked s c marks)) n p
   -- where it answers 0 or 31 the marks of the pages met are written anew, and the others are as they were
   pub marks-written : (a .number ≡ 0) ⊎ (a .number ≡ 31) → after ≡ remarked s c marks
+  -- whatever it answers, there are as many marks as before, and no mark of a page that its range does not meet is written
+  pub marks-long : length after ≡ length marks
+  pub unmet-stays : (i : ℕ) → metBy s c i ≡ false → getD after i 0 ≡ getD marks i 0
+  -- where it answers 0 or 31, the mark of a page met is 0 exactly when that page's lent bytes agree with its slot, else 1
+  pub met-written : (a .number ≡ 0) ⊎ (a .number ≡ 31) → (i : ℕ) → metBy s c i ≡ true
+      → getD after i 0 ≡ cond (agrees (slotsOf s) i (lentPage s c i)) 0 1
 
 pub record Demand2 : Type 0 where
   pub check : (x : Lent) (marks : List ℕ) (v : Verdict) (after : List ℕ) → Checked x marks v after → Check2 x marks v after

@@ -1,19 +1,21 @@
--- Demand 3: chains of rechecks. One claim about the whole list of calls, beside a book that says which image they have examined.
+-- Demand 3: chains of rechecks. Of the whole list of calls, beside a book that says which image they have examined; and of the whole list of
+-- calls and changes of the image, page by page and of the image as a whole.
 use Prim.Native.Nat.{ℕ, _+_, _*_, _<_, _≤_}
 use mathlib.Core.Bool.{Bool, true, false, cond, _&&_, _||_}
-use mathlib.Core.List.{List, [], _∷_}
-use mathlib.Core.Logic.{_⊎_}
+use mathlib.Core.List.{List, [], _∷_, _++_}
+use mathlib.Core.Logic.{_⊎_, _↔_}
 use mathlib.Core.Path.{_≡_}
-use lib.Dec.{eqb, ltb, leb}
+use lib.Dec.{eqb}
 use lib.ListN.{length, getD}
 use Rattle.refusals.specs.declared.Answer.{Answer}
 use Rattle.refusals.specs.Refusals.{refuse, accepted, first}
-use Rattle.pages.specs.Pages.{pageCount, pageOf, part, metFirst, metEnd, metStop, splice}
+use Rattle.pages.specs.Pages.{pageCount, pageOf, part, metFirst, metStop, splice}
 use Rattle.pages.specs.Marks.{agrees}
 use Rattle.admission.specs.declared.Verdict.{Verdict}
 use Rattle.admission.specs.Input.{Lent, withImage, pageBytesOf, limitOf, slotsOf}
 use Rattle.admission.specs.Check.{Checked, checkAnswer, checkMarks}
 use Rattle.admission.specs.Recheck.{Call, recheck, inputRows, Rechecked}
+use Rattle.admission.specs.Meets.{meets, metBy, Meets}
 
 -- THE BOOK
 
@@ -30,15 +32,11 @@ opened image = record { image = image; examined = λ i. true }
 unfoldable pub turnedDown : List ℕ → Call → ℕ
 turnedDown s c = first (inputRows s c) accepted .number
 
--- a range meets page i
-abbrev pub meets : List ℕ → ℕ → ℕ → ℕ → Bool
-meets s start size i = leb (metFirst (pageBytesOf s) start size) i && ltb i (metEnd (pageBytesOf s) start size)
-
 -- a recheck that examines: its lent bytes replace the pages met
 abbrev pub examine : List ℕ → Book → Call → Book
-examine s b (recheck start size lent) =
+examine s b (recheck start size new) =
     record {
-      image = splice (b .image) (pageBytesOf s * metFirst (pageBytesOf s) start size) lent;
+      image = splice (b .image) (pageBytesOf s * metFirst (pageBytesOf s) start size) new;
       examined = λ i. meets s start size i || b .examined i;
     }
 
@@ -127,33 +125,81 @@ pub data Event : Type 0 where
 
 unfoldable pub imageAfter : List ℕ → List Event → List ℕ
 imageAfter image [] = image
-imageAfter image (change at bytes ∷ es) = imageAfter (splice image at bytes) es
+imageAfter image (change at new ∷ es) = imageAfter (splice image at new) es
 imageAfter image (call m ∷ es) = imageAfter image es
 
 abbrev pub madeIn : List Event → List Made
 madeIn [] = []
-madeIn (change at bytes ∷ es) = madeIn es
+madeIn (change at new ∷ es) = madeIn es
 madeIn (call m ∷ es) = m ∷ madeIn es
 
 -- a recheck is lent the image's bytes of the pages met
 abbrev pub LentFrom : List ℕ → List ℕ → Call → Type 0
-LentFrom s image (recheck start size lent) =
-    lent ≡ part image (pageBytesOf s * metFirst (pageBytesOf s) start size) (metStop (pageBytesOf s) (limitOf s) start size)
+LentFrom s image (recheck start size new) =
+    new ≡ part image (pageBytesOf s * metFirst (pageBytesOf s) start size) (metStop (pageBytesOf s) (limitOf s) start size)
 
 -- each change lies below the code limit, and each recheck that examines is lent the image's bytes of that time
 unfoldable pub Faithful : List ℕ → List ℕ → List Event → Type 0
 Faithful s image [] = Unit {0}
-Faithful s image (change at bytes ∷ es) = (at + length bytes ≤ limitOf s) × Faithful s (splice image at bytes) es
+Faithful s image (change at new ∷ es) = (at + length new ≤ limitOf s) × Faithful s (splice image at new) es
 Faithful s image (call m ∷ es) = (turnedDown s (m .call) ≡ 0 → LentFrom s image (m .call)) × Faithful s image es
 
 -- a call examines page i
 abbrev pub examines : List ℕ → Call → ℕ → Bool
-examines s (recheck start size lent) i = eqb (turnedDown s (recheck start size lent)) 0 && meets s start size i
+examines s c i = eqb (turnedDown s c) 0 && metBy s c i
 
--- page i was altered after it was last examined; `b` says so of what was before
+-- PAGE BY PAGE
+
+-- page i of an image
+abbrev pub pageAt : List ℕ → List ℕ → ℕ → List ℕ
+pageAt s image i = pageOf (pageBytesOf s) (limitOf s) i image
+
+-- page i as it was when a call last examined it, `seen` where none of these does
+unfoldable pub lastSeen : List ℕ → ℕ → List ℕ → List ℕ → List Event → List ℕ
+lastSeen s i seen image [] = seen
+lastSeen s i seen image (change at new ∷ es) = lastSeen s i seen (splice image at new) es
+lastSeen s i seen image (call m ∷ es) = lastSeen s i (cond (examines s (m .call) i) (pageAt s image i) seen) image es
+
+-- page i as it was last examined, at first by the whole check
+abbrev pub examinedPage : List ℕ → List ℕ → List Event → ℕ → List ℕ
+examinedPage s image events i = lastSeen s i (pageAt s image i) image events
+
+-- p is the lowest page that differs from its slot
+pub record LowestDiffers (s : List ℕ) (page : ℕ → List ℕ) (p : ℕ) : Type 0 where
+  pub here : p < pageCount (pageBytesOf s) (limitOf s)
+  pub differs : agrees (slotsOf s) p (page p) ≡ false
+  pub before : (k : ℕ) → k < p → agrees (slotsOf s) k (page k) ≡ true
+
+-- what demand 2 gives for all pages: 0 with place 0 exactly when every page agrees with its slot, and 31 exactly with the lowest that differs
+pub record AnswersFor (s : List ℕ) (page : ℕ → List ℕ) (a : Answer) : Type 0 where
+  pub accepts : (a ≡ accepted) ↔ ((i : ℕ) → i < pageCount (pageBytesOf s) (limitOf s) → agrees (slotsOf s) i (page i) ≡ true)
+  pub refuses : (p : ℕ) → (a ≡ refuse 31 p) ↔ LowestDiffers s page p
+
+-- after a list of changes and rechecks, with `after` the marks that the whole check left
+pub record AsExamined (x : Lent) (after : List ℕ) (events : List Event) : Type 0 where
+  -- each page of the book's image is the page as it was last examined
+  pub page : (i : ℕ)
+      → pageAt (x .signature) (bookAfter (x .signature) (opened (x .image)) (calls (madeIn events)) .image) i
+      ≡ examinedPage (x .signature) (x .image) events i
+  -- each mark is the one that demand 2 gives for its page as it was last examined
+  pub mark : (i : ℕ) → i < pageCount (pageBytesOf (x .signature)) (limitOf (x .signature))
+      → getD (lastMarks after (madeIn events)) i 0 ≡ cond (agrees (slotsOf (x .signature)) i (examinedPage (x .signature) (x .image) events i)) 0 1
+  -- each recheck that is not turned down answers so for all pages so taken, those that it examines itself included
+  pub answer : (before rest : List Event) (m : Made) → events ≡ before ++ (call m ∷ rest) → turnedDown (x .signature) (m .call) ≡ 0
+      → AnswersFor (x .signature) (examinedPage (x .signature) (x .image) (before ++ (call m ∷ []))) (m .answer)
+
+-- of every list after a whole check that answered 0 or 31, whatever the changes wrote
+abbrev pub Pages : Type 0
+Pages = (x : Lent) (marks : List ℕ) (v : Verdict) (after : List ℕ) (events : List Event)
+    → Checked x marks v after → (v .number ≡ 0) ⊎ (v .number ≡ 31) → InTurn (x .signature) after (madeIn events)
+    → Faithful (x .signature) (x .image) events → AsExamined x after events
+
+-- THE WHOLE IMAGE
+
+-- the range of a change has met page i after it was last examined, whether or not a byte then differs; `b` says so of what was before
 unfoldable pub altered : List ℕ → ℕ → Bool → List Event → Bool
 altered s i b [] = b
-altered s i b (change at bytes ∷ es) = altered s i (meets s at (length bytes) i || b) es
+altered s i b (change at new ∷ es) = altered s i (meets s at (length new) i || b) es
 altered s i b (call m ∷ es) = altered s i (cond (examines s (m .call) i) false b) es
 
 -- where no page was altered after it was last examined, the book's image is the image as it is now, and marks and the latest answer are those
@@ -170,4 +216,6 @@ Images = (x : Lent) (marks : List ℕ) (v : Verdict) (after : List ℕ) (events 
 
 pub record Demand3 : Type 0 where
   pub chains : Chains
+  pub pages : Pages
   pub images : Images
+  pub meets-shared : Meets

@@ -1,6 +1,7 @@
 pub mod Input
 pub mod Check
 pub mod Recheck
+pub mod Meets
 pub mod Admissible
 pub mod Demand1
 pub mod Demand2
