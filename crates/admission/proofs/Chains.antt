@@ -11,16 +11,17 @@ use lib.ListN.{length, drop}
 use borrow.Author.Tests.{eqb-true}
 use Rattle.refusals.specs.declared.Answer.{Answer}
 use Rattle.refusals.specs.Refusals.{refuse, accepted, Passes}
-use Rattle.refusals.specs.Exact.{passed}
+use Rattle.refusals.proofs.Exact.{passed}
+use Rattle.directory.specs.Rows.{directory}
 use Rattle.pages.specs.Pages.{Fit, pageCount, wanted, rangeRows}
 use Rattle.pages.specs.Marks.{markOf, markRows, judged}
-use Rattle.pages.specs.Tests.{range-unused, range-passed}
-use Rattle.pages.specs.Marking.{marks-length, marks-at, marks-pass}
-use Rattle.pages.specs.Spliced.{spliced-length, spliced-past, remarked-marks}
+use Rattle.pages.proofs.Tests.{range-unused, range-passed}
+use Rattle.pages.proofs.Marking.{marks-length, marks-at, marks-pass}
+use Rattle.pages.proofs.Spliced.{spliced-length, spliced-past, remarked-marks}
 use Rattle.admission.specs.declared.Verdict.{Verdict}
-use Rattle.admission.specs.Input.{Lent, withImage, pageBytesOf, limitOf, slotsOf, marksOf}
+use Rattle.admission.specs.Input.{Lent, beside, withImage, pageBytesOf, limitOf, slotsOf, marksOf}
 use Rattle.admission.specs.Check.{countRows, checkRows, checkAnswer, CheckOutcome, checkOf, Checked}
-use Rattle.admission.specs.Recheck.{Call, recheck, inputRows, remarked, callAnswer, callMarks, CallOutcome, callOf, Rechecked}
+use Rattle.admission.specs.Recheck.{Call, recheckOf, inputRows, remarked, callAnswer, callMarks, CallOutcome, callOf, Rechecked}
 use Rattle.admission.specs.Demand3.{Book, opened, turnedDown, examine, bookAfter1, bookAfter, placeless, wholeAnswer, due, Made, calls, InTurn, Marked, Kept, lastMarks, latest, answerOf, Chains}
 use Rattle.admission.specs.Meets.{meets}
 use Rattle.admission.proofs.Outcomes.{ready, other-image, answer-passes, whole-answer, whole-marks, placeless-judged, call-answer, call-marks, turned-first}
@@ -28,7 +29,7 @@ use Rattle.admission.proofs.Outcomes.{ready, other-image, answer-passes
 -- A RECHECK THAT EXAMINES
 
 -- its range lies below the limit, and it is lent the bytes of the pages met
-pub input-passed : (s : List ℕ) (start size : ℕ) (new : List ℕ) → turnedDown s (recheck start size new) ≡ 0
+pub input-passed : (s : List ℕ) (start size : ℕ) (new : List ℕ) → turnedDown s (recheckOf start size new) ≡ 0
     → (start + size ≤ limitOf s) × (length new ≡ wanted (pageBytesOf s) (limitOf s) start size)
 unfolding turnedDown inputRows
 input-passed s start size new e =
@@ -37,13 +38,13 @@ input-passed s start size new e =
 
 -- it keeps the length of the book's image and the bytes past the limit ...
 examined-length : (s : List ℕ) (b : Book) (c : Call) → limitOf s ≤ length (b .image) → turnedDown s c ≡ 0 → length (examine s b c .image) ≡ length (b .image)
-examined-length s b (recheck start size new) long e =
+examined-length s b (recheckOf start size new) long e =
     let h = input-passed s start size new e in
     spliced-length (pageBytesOf s) (limitOf s) (b .image) start size new long (h .0) (h .1)
 
 examined-past : (s : List ℕ) (b : Book) (c : Call) → limitOf s ≤ length (b .image) → turnedDown s c ≡ 0
     → drop (limitOf s) (examine s b c .image) ≡ drop (limitOf s) (b .image)
-examined-past s b (recheck start size new) long e =
+examined-past s b (recheckOf start size new) long e =
     let h = input-passed s start size new e in
     spliced-past (pageBytesOf s) (limitOf s) (b .image) start size new long (h .0) (h .1)
 
@@ -51,13 +52,13 @@ examined-past s b (recheck start size new) long e =
 examined-marks : (s : List ℕ) (b : Book) (c : Call) → Fit (pageBytesOf s) (limitOf s) → limitOf s ≤ length (b .image) → turnedDown s c ≡ 0
     → remarked s c (marksOf s (b .image)) ≡ marksOf s (examine s b c .image)
 unfolding remarked
-examined-marks s b (recheck start size new) f long e =
+examined-marks s b (recheckOf start size new) f long e =
     let h = input-passed s start size new e in
     remarked-marks (pageBytesOf s) (limitOf s) (b .image) start size new long (h .0) (h .1) (slotsOf s) f
 
 -- no page gets unexamined
 examined-all : (s : List ℕ) (b : Book) (c : Call) (i : ℕ) → b .examined i ≡ true → examine s b c .examined i ≡ true
-examined-all s b (recheck start size new) i e = or-true (meets s start size i) (b .examined i) e
+examined-all s b (recheckOf start size new) i e = or-true (meets s start size i) (b .examined i) e
   where
     or-true : (x y : Bool) → y ≡ true → (x || y) ≡ true
     or-true true y e = refl
@@ -99,13 +100,13 @@ held-marked x b h =
       all-examined = h .seen;
     }
 
-module _ (x : Lent) (n : ℕ) (p : Passes (checkRows x (length (x .image)) n)) where
+module _ (x : Lent) (n : ℕ) (p : Passes (checkRows (beside x) (length (x .image)) n)) where
   -- its image reaches the limit
   pub held-long : (b : Book) → Held x b → limitOf (x .signature) ≤ length (b .image)
-  held-long b h = omega (arith, ready x (length (x .image)) n p .long, h .long)
+  held-long b h = omega (arith, ready (beside x) (length (x .image)) n p .long, h .long)
 
   -- a whole check of its image passes tests 1 to 30 too, and so answers by the image's marks
-  pub held-passes : (b : Book) → Held x b → Passes (checkRows (withImage x (b .image)) (length (b .image)) n)
+  pub held-passes : (b : Book) → Held x b → Passes (checkRows (beside (withImage x (b .image))) (length (b .image)) n)
   held-passes b h = rw (other-image x (b .image) (length (b .image)) n, h .long) p
 
   pub held-answer : (b : Book) → Held x b → wholeAnswer x n b ≡ judged (marksOf (x .signature) (b .image)) 0
@@ -133,12 +134,12 @@ module _ (x : Lent) (n : ℕ) (p : Passes (checkRows x (length (x .image)) n)) w
         → remarked (x .signature) c (marksOf (x .signature) (b .image)) ≡ marksOf (x .signature) (bookAfter1 (x .signature) b c .image)
     new-marks e =
         rw (book-examined (x .signature) b c e)
-        (examined-marks (x .signature) b c (ready x _ n p .fits) (held-long b h) (eqb-true _ _ e))
+        (examined-marks (x .signature) b c (ready (beside x) _ n p .fits) (held-long b h) (eqb-true _ _ e))
 
     -- tests 20 and 34 pass
-    counted : Passes (countRows (x .signature) (length (marksOf (x .signature) (b .image))))
+    counted : Passes (countRows (directory (x .signature)) (length (marksOf (x .signature) (b .image))))
     unfolding countRows
-    counted = (marks-count (x .signature) (b .image) ∙ sym (ready x _ n p .slotted), tt)
+    counted = (marks-count (x .signature) (b .image) ∙ sym (ready (beside x) _ n p .slotted), tt)
 
     even : Passes (markRows (marksOf (x .signature) (b .image)))
     even = marks-pass _ _ _ (b .image)
@@ -146,7 +147,7 @@ module _ (x : Lent) (n : ℕ) (p : Passes (checkRows x (length (x .image)) n)) w
     -- it leaves the marks of the image that the book then has ...
     step-marks : callMarks (x .signature) c (marksOf (x .signature) (b .image)) ≡ marksOf (x .signature) (bookAfter1 (x .signature) b c .image)
     step-marks =
-        call-marks (x .signature) c (marksOf (x .signature) (b .image)) (ready x _ n p .sound) counted even
+        call-marks (x .signature) c (marksOf (x .signature) (b .image)) (ready (beside x) _ n p .sound) counted even
         ∙ by-test (eqb (turnedDown (x .signature) c) 0) refl
       where
         by-test : (t : Bool) → eqb (turnedDown (x .signature) c) 0 ≡ t
@@ -159,7 +160,7 @@ module _ (x : Lent) (n : ℕ) (p : Passes (checkRows x (length (x .image)) n)) w
     step-answer : callAnswer (x .signature) c (marksOf (x .signature) (b .image)) ≡ due x n b c
     unfolding due
     step-answer =
-        call-answer (x .signature) c (marksOf (x .signature) (b .image)) (ready x _ n p .sound) counted even
+        call-answer (x .signature) c (marksOf (x .signature) (b .image)) (ready (beside x) _ n p .sound) counted even
         ∙ turned-first (x .signature) c (judged (remarked (x .signature) c (marksOf (x .signature) (b .image))) 0)
         ∙ by-test (eqb (turnedDown (x .signature) c) 0) refl
       where
@@ -237,7 +238,7 @@ chain-latest x n b (m ∷ ms) k =
 
 -- a whole check that answered 0 or 31: it passed tests 1 to 30, left the marks of its image, and answered what the opened book has to
 pub record Started (x : Lent) (n : ℕ) (v : Verdict) (after : List ℕ) : Type 0 where
-  pub passing : Passes (checkRows x (length (x .image)) n)
+  pub passing : Passes (checkRows (beside x) (length (x .image)) n)
   pub left : after ≡ marksOf (x .signature) (x .image)
   pub answered : placeless (answerOf v) ≡ wholeAnswer x n (opened (x .image))
 

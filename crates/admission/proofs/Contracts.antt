@@ -7,7 +7,7 @@ use borrow.Fn.World.{ArgsD, ResD}
 use borrow.Fn.Kinds.{endedOf}
 use Rattle.admission.specs.Input.{lent}
 use Rattle.admission.specs.Check.{Checked}
-use Rattle.admission.specs.Recheck.{recheck, Rechecked}
+use Rattle.admission.specs.Recheck.{recheckOf, Rechecked}
 use Rattle.admission.proofs.check.Reads as check-reads
 use Rattle.admission.proofs.check.Kinds as check-kinds
 use Rattle.admission.proofs.recheck.Reads as recheck-reads
@@ -32,5 +32,5 @@ module _ (κs : Lfts 3) (a : ArgsD Rattle.admission.proofs.recheck.sign
 
   pub recheck-says : (r : ResD Rattle.admission.proofs.recheck.signature κs) (e : AtExit (endedOf 3 recheck-kinds.ps recheck-kinds.r) κs)
       → recheck-reads.Learnt κs a r e
-      → Rechecked (now (a .0)) (recheck (a .1 .0) (a .1 .1 .0) (now (a .1 .1 .1 .0))) (now (a .1 .1 .1 .1 .0)) r (now (e .1 .1 .1 .1 .0))
+      → Rechecked (now (a .0)) (recheckOf (a .1 .0) (a .1 .1 .0) (now (a .1 .1 .1 .0))) (now (a .1 .1 .1 .1 .0)) r (now (e .1 .1 .1 .1 .0))
   recheck-says r e h = h

@@ -5,11 +5,11 @@ use mathlib.Core.Bool.{Bool, true, false, cond, _&&_, _||_}
 use mathlib.Core.List.{List, _++_}
 use mathlib.Core.Logic.{inl, inr, ⊎-elim}
 use mathlib.Core.Path.{_≡_, refl, sym, ap, _∙_}
-use lib.Dec.{T, eqb, leb, leb→le}
+use lib.Dec.{T, eqb}
 use lib.ListN.{length}
 use borrow.Author.Tests.{eqb-true, leb-true}
 use Rattle.refusals.specs.declared.Answer.{Answer}
-use Rattle.refusals.specs.Refusals.{_≡?_, holds, Row, accepted, refuse, first}
+use Rattle.refusals.specs.Refusals.{_≡?_, holds, Row, accepted, refuse, first, OneOf}
 use Rattle.refusals.proofs.Exact.{Unused, passes, passed}
 use Rattle.refusals.proofs.Joined.{first-append}
 use Rattle.superblob.specs.Rows.{rows, headRows, indexRows}
@@ -21,44 +21,21 @@ use Rattle.trustcache.specs.Table.{cacheRows}
 use Rattle.pages.specs.Pages.{rangeRows}
 use Rattle.pages.specs.Marks.{markRows, badRows, judged}
 use Rattle.pages.proofs.Marking.{judged-number}
-use Rattle.admission.specs.Input.{Lent, marksOf}
-use Rattle.admission.specs.Check.{imageRows, countRows, checkRows, entryFor, checkTable, checkAnswer, checkMarks, CheckOutcome, checkOf}
-use Rattle.admission.specs.Recheck.{Call, recheck, inputRows, callRows, remarked, callAnswer, callMarks, CallOutcome, callOf}
-use Rattle.admission.specs.Demand1.{CheckNumber, RecheckNumber, Demand1}
-use Rattle.refusals.proofs.Alike.{allIn, first-in}
+use Rattle.admission.specs.Input.{Beside, Lent, beside, marksOf}
+use Rattle.admission.specs.Check.{imageRows, laterRows, countRows, checkRows, entryFor, checkTable, checkAnswer, checkMarks, CheckOutcome, checkOf}
+use Rattle.admission.specs.Recheck.{Call, recheckOf, inputRows, callRows, remarked, callAnswer, callMarks, CallOutcome, callOf}
+use Rattle.admission.specs.Demand1.{checkNumbers, recheckNumbers, Demand1}
+use Rattle.refusals.proofs.Numbers.{allIn, answer-in}
 
--- THE NUMBERS, as tests that compute
+-- THE NUMBERS: all rows of a call have numbers of its list, and no test before the pages has the number 0. Both compute
 
-abbrev checkNumber : ℕ → Bool
-checkNumber n = leb n 31
-
-abbrev recheckNumber : ℕ → Bool
-recheckNumber n = leb n 18 || (eqb n 20 || (leb 31 n && leb n 34))
-
--- .. say what they ask
-
-is-checkNumber : (n : ℕ) → T (checkNumber n) → CheckNumber n
-is-checkNumber n h = leb→le n 31 h
-
-is-recheckNumber : (n : ℕ) → T (recheckNumber n) → RecheckNumber n
-is-recheckNumber n h = by-tests (leb n 18) refl (eqb n 20) refl (leb 31 n) refl (leb n 34) refl h
-  where
-    by-tests : (a : Bool) → leb n 18 ≡ a → (b : Bool) → eqb n 20 ≡ b → (d : Bool) → leb 31 n ≡ d → (e : Bool) → leb n 34 ≡ e
-        → T (a || (b || (d && e))) → RecheckNumber n
-    by-tests true p b q d r e u h = inl (leb-true n 18 p)
-    by-tests false p true q d r e u h = inr (inl (eqb-true n 20 q))
-    by-tests false p false q true r true u h = inr (inr (leb-true 31 n r, leb-true n 34 u))
-    by-tests false p false q true r false u h = absurd h
-    by-tests false p false q false r e u h = absurd h
-
--- all rows of a call have such numbers, and no test before the pages has the number 0
-check-numbers : (x : Lent) (m n : ℕ) (marks : List ℕ) → T (allIn checkNumber (checkRows x m n ++ badRows marks)) × Unused (checkRows x m n) 0
-unfolding checkRows signatureRows rows headRows indexRows directoryRows blobRows fieldRows slotRows imageRows countRows specialRows cacheRows formRows lookupRows launchRows badRows
+check-numbers : (x : Beside) (m n : ℕ) (marks : List ℕ) → T (allIn checkNumbers (checkRows x m n ++ badRows marks)) × Unused (checkRows x m n) 0
+unfolding checkRows signatureRows rows headRows indexRows directoryRows blobRows fieldRows slotRows imageRows laterRows countRows specialRows cacheRows formRows lookupRows launchRows badRows
 check-numbers x m n marks = (tt, tt)
 
-call-numbers : (s : List ℕ) (c : Call) (marks new : List ℕ) → T (allIn recheckNumber (callRows s c marks ++ badRows new)) × Unused (callRows s c marks) 0
+call-numbers : (s : List ℕ) (c : Call) (marks new : List ℕ) → T (allIn recheckNumbers (callRows s c marks ++ badRows new)) × Unused (callRows s c marks) 0
 unfolding callRows signatureRows rows headRows indexRows directoryRows blobRows fieldRows slotRows countRows inputRows rangeRows markRows badRows
-call-numbers s (recheck start size lent) marks new = (tt, tt)
+call-numbers s (recheckOf start size given) marks new = (tt, tt)
 
 -- THE MARKS
 
@@ -91,25 +68,25 @@ module _ (x : Lent) (marks : List ℕ) where
   -- tests 1 to 30, and their numbers
 
   abbrev tests-of-check : List Row
-  tests-of-check = checkRows x (length (x .image)) (length marks)
+  tests-of-check = checkRows (beside x) (length (x .image)) (length marks)
 
-  numbers-of-check : T (allIn checkNumber (tests-of-check ++ badRows (marksOf (x .signature) (x .image)))) × Unused tests-of-check 0
-  numbers-of-check = check-numbers x (length (x .image)) (length marks) (marksOf (x .signature) (x .image))
+  numbers-of-check : T (allIn checkNumbers (tests-of-check ++ badRows (marksOf (x .signature) (x .image)))) × Unused tests-of-check 0
+  numbers-of-check = check-numbers (beside x) (length (x .image)) (length marks) (marksOf (x .signature) (x .image))
 
-  check-in : CheckNumber (checkAnswer x (length marks) .number)
+  check-in : OneOf checkNumbers (checkAnswer x (length marks) .number)
   unfolding checkAnswer checkTable
   check-in =
-      is-checkNumber _ (first-in checkNumber (tests-of-check ++ badRows (marksOf (x .signature) (x .image))) (refuse 0 (entryFor x)) (numbers-of-check .0) tt)
+      answer-in checkNumbers (tests-of-check ++ badRows (marksOf (x .signature) (x .image))) (refuse 0 (entryFor (beside x))) (numbers-of-check .0) tt
 
   check-stays : (checkAnswer x (length marks) .number ≡ 0 → ⊥) → (checkAnswer x (length marks) .number ≡ 31 → ⊥) → checkMarks x marks ≡ marks
   unfolding checkAnswer checkTable checkMarks
-  check-stays = leaves tests-of-check (numbers-of-check .1) marks (marksOf (x .signature) (x .image)) (entryFor x)
+  check-stays = leaves tests-of-check (numbers-of-check .1) marks (marksOf (x .signature) (x .image)) (entryFor (beside x))
 
 module _ (s : List ℕ) (c : Call) (marks : List ℕ) where
-  call-in : RecheckNumber (callAnswer s c marks .number)
+  call-in : OneOf recheckNumbers (callAnswer s c marks .number)
   unfolding callAnswer
   call-in =
-      is-recheckNumber _ (first-in recheckNumber (callRows s c marks ++ badRows (remarked s c marks)) accepted (call-numbers s c marks (remarked s c marks) .0) tt)
+      answer-in recheckNumbers (callRows s c marks ++ badRows (remarked s c marks)) accepted (call-numbers s c marks (remarked s c marks) .0) tt
 
   call-stays : (callAnswer s c marks .number ≡ 0 → ⊥) → (callAnswer s c marks .number ≡ 31 → ⊥) → callMarks s c marks ≡ marks
   unfolding callAnswer callMarks

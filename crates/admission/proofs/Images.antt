@@ -7,9 +7,9 @@ use mathlib.Core.Path.{_≡_, refl, sym, _∙_}
 use native.Mathlib.Omega.{arith}
 use lib.ListN.{length, drop}
 use Rattle.pages.specs.Pages.{Fit, splice}
-use Rattle.pages.specs.Lists.{splice-length, splice-past}
-use Rattle.pages.specs.Spliced.{change-page, same-pages}
-use Rattle.admission.specs.Input.{withImage, pageBytesOf, limitOf}
+use Rattle.pages.proofs.Lists.{splice-length, splice-past}
+use Rattle.pages.proofs.Spliced.{change-page, same-pages}
+use Rattle.admission.specs.Input.{beside, withImage, pageBytesOf, limitOf}
 use Rattle.admission.specs.Meets.{meets}
 use Rattle.admission.specs.Demand3.{opened, bookAfter, wholeAnswer, calls, Event, change, call, imageAfter, madeIn, Faithful, examines, pageAt, lastSeen, altered, Images}
 use Rattle.admission.proofs.Outcomes.{ready, whole-marks}
@@ -62,7 +62,7 @@ pub images : Images
 unfolding wholeAnswer
 images x marks v after events c z t f n =
     let s = started x marks v after c z in
-    let r = ready x (length (x .image)) (length marks) (s .passing) in
+    let r = ready (beside x) (length (x .image)) (length marks) (s .passing) in
     let h = chain-held x (length marks) (s .passing) (opened (x .image)) (calls (madeIn events)) (held-opened x) in
     let k = image-kept (x .signature) (x .image) events (r .long) f in
     let q : bookAfter (x .signature) (opened (x .image)) (calls (madeIn events)) .image ≡ imageAfter (x .image) events =

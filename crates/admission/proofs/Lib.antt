@@ -10,10 +10,7 @@ pub mod Pages
 pub mod Images
 pub mod Demand1
 pub mod Demand3
-pub mod SameRead
-pub mod Ignored
-pub mod SignatureRules
-pub mod SlotRules
-pub mod CacheRules
+pub mod Sides
 pub mod PageRules
+pub mod Accepted
 pub mod Demand2

@@ -12,29 +12,22 @@ use lib.ListN.{length, getD, take, drop}
 use borrow.Author.Tests.{ltb-true, ltb-false, leb-true, leb-false, lt-ltb, le-leb}
 use Rattle.refusals.specs.declared.Answer.{Answer}
 use Rattle.refusals.specs.Refusals.{accepted, first, Passes}
-use Rattle.refusals.specs.Exact.{passes}
-use Rattle.directory.specs.Pages.{P}
-use Rattle.directory.specs.Rows.{signatureRows}
-use Rattle.directory.specs.Formed.{directory-read}
+use Rattle.refusals.proofs.Exact.{passes-zero}
+use Rattle.directory.specs.Rows.{directory}
+use Rattle.directory.proofs.Formed.{signature-exactly}
+use Rattle.directory.proofs.Pages.{fits}
 use Rattle.pages.specs.Pages.{Fit, part, metFirst, metEnd, splice}
 use Rattle.pages.specs.Marks as Marks
-use Rattle.pages.specs.Marks.{agrees, markOf, markIn, marksFrom}
-use Rattle.pages.specs.Lists.{part-at, splice-before, splice-inside, splice-after, tab-length, tab-at}
-use Rattle.pages.specs.Marking.{RangeHere, cut-order, cut-within, remarked-length}
-use Rattle.pages.specs.Geometry.{fit-of, meets-exactly}
+use Rattle.pages.specs.Marks.{agrees, markOf, markIn, marksFrom, RangeHere}
+use Rattle.pages.proofs.Lists.{part-at, splice-before, splice-inside, splice-after, tab-length, tab-at}
+use Rattle.pages.proofs.Marking.{cut-order, cut-within, remarked-length}
+use Rattle.pages.proofs.Pages.{meets-exactly}
 use Rattle.admission.specs.Input.{pageBytesOf, limitOf, slotsOf}
-use Rattle.admission.specs.Recheck.{Call, recheck, callRows, remarked}
+use Rattle.admission.specs.Recheck.{Call, recheckOf, callRows, remarked}
 use Rattle.admission.specs.Meets.{meets, metBy, lentPage, Meets}
 use Rattle.admission.proofs.Calls.{range-here}
 
 -- A RANGE
-
--- tests 1 to 18 leave pages that have bytes, or none at all
-fit : (side : ℕ) (s : List ℕ) → Passes (signatureRows side s) → Fit (pageBytesOf s) (limitOf s)
-unfolding P
-fit side s p =
-    let w = directory-read side s (sym (ap (λ (a : Answer). a .number) (passes (signatureRows side s) accepted p))) .directory in
-    fit-of _ _ (λ a b. ⊎-elim (λ e. absurd (a e)) (λ r. ⊎-elim (λ e. absurd (b e)) (λ e. e) r) (w .shift))
 
 module _ (s : List ℕ) (start size i : ℕ) where
   -- a page met is one of those from the first met to before the end ...
@@ -60,7 +53,7 @@ module _ (s : List ℕ) (start size i : ℕ) where
 -- so the pages met are those that share a byte with the range
 pub meets-shared : Meets
 meets-shared s start size i p h u =
-    let e = meets-exactly (pageBytesOf s) (limitOf s) start size i (fit 0 s p) h u in
+    let e = meets-exactly (pageBytesOf s) (limitOf s) start size i (fits (directory s) (signature-exactly 0 s .0 p .formed)) h u in
     ((λ m. e .0 (met s start size i m)), λ k. ap₂ _&&_ (le-leb _ _ (e .1 k .0)) (lt-ltb _ _ (e .1 k .1)))
 
 -- MARKS PUT IN
@@ -118,29 +111,29 @@ module _ (p limit : ℕ) (slots : List ℕ) (start size : ℕ) (new marks : List
 
 -- THE NEW MARKS OF A CALL, where the tests before the pages pass
 
-range : (s : List ℕ) (start size : ℕ) (new marks : List ℕ) → Passes (callRows s (recheck start size new) marks)
+range : (s : List ℕ) (start size : ℕ) (new marks : List ℕ) → Passes (callRows s (recheckOf start size new) marks)
     → RangeHere (pageBytesOf s) (limitOf s) (slotsOf s) start size new marks
 range s start size new marks p =
-    let tests = callRows s (recheck start size new) marks in
-    range-here s start size new marks (first tests accepted) refl (sym (ap (λ (a : Answer). a .number) (passes tests accepted p)))
+    let tests = callRows s (recheckOf start size new) marks in
+    range-here s start size new marks (first tests accepted) refl (passes-zero tests accepted refl p) (directory s) refl
 
 -- they are as many as before
 pub call-long : (s : List ℕ) (c : Call) (marks : List ℕ) → Passes (callRows s c marks) → length (remarked s c marks) ≡ length marks
 unfolding remarked
-call-long s (recheck start size new) marks p =
+call-long s (recheckOf start size new) marks p =
     remarked-length (pageBytesOf s) (limitOf s) (slotsOf s) start size new marks (range s start size new marks p)
 
 -- one of a page that is not met is as before
 pub call-unmet : (s : List ℕ) (c : Call) (marks : List ℕ) → Passes (callRows s c marks) → (i : ℕ) → metBy s c i ≡ false
     → getD (remarked s c marks) i 0 ≡ getD marks i 0
 unfolding remarked
-call-unmet s (recheck start size new) marks p i m =
+call-unmet s (recheckOf start size new) marks p i m =
     remarked-unmet (pageBytesOf s) (limitOf s) (slotsOf s) start size new marks (range s start size new marks p) i (unmet s start size i m)
 
 -- one of a page met is that of the lent page
 pub call-met : (s : List ℕ) (c : Call) (marks : List ℕ) → Passes (callRows s c marks) → (i : ℕ) → metBy s c i ≡ true
     → getD (remarked s c marks) i 0 ≡ cond (agrees (slotsOf s) i (lentPage s c i)) 0 1
 unfolding remarked markOf
-call-met s (recheck start size new) marks p i m =
+call-met s (recheckOf start size new) marks p i m =
     let q = met s start size i m in
     remarked-met (pageBytesOf s) (limitOf s) (slotsOf s) start size new marks (range s start size new marks p) i (q .0) (q .1)

@@ -17,7 +17,7 @@ use Rattle.pages.specs.Marks.{slotAt, marksOf, differs, badRows}
 use Rattle.pages.proofs.Marking.{mark-exact, mark-small, marks-length, marks-at}
 use Rattle.directory.specs.Pages.{P, pages}
 use Rattle.directory.specs.Rows.{codeSlot, codeSlots}
-use Rattle.directory.specs.Slots.{codeSlot-part}
+use Rattle.directory.proofs.Slots.{codeSlot-part}
 
 -- every page's digest is its slot
 abbrev pub PagesAgree : List ℕ → List ℕ → Type 0

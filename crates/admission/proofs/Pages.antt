@@ -12,12 +12,12 @@ use Rattle.refusals.specs.declared.Answer.{Answer}
 use Rattle.refusals.specs.Refusals.{accepted, refuse, Passes}
 use Rattle.pages.specs.Pages.{pageCount}
 use Rattle.pages.specs.Marks.{agrees, markOf, judged}
-use Rattle.pages.specs.Marking.{marks-length, marks-at}
-use Rattle.pages.specs.Tests.{judged-bad, bad-judged, judged-good, good-judged}
-use Rattle.pages.specs.Spliced.{page-unmet, page-lent}
-use Rattle.admission.specs.Input.{Lent, pageBytesOf, limitOf, slotsOf, marksOf}
+use Rattle.pages.proofs.Marking.{marks-length, marks-at}
+use Rattle.pages.proofs.Tests.{judged-bad, bad-judged, judged-good, good-judged}
+use Rattle.pages.proofs.Spliced.{page-unmet, page-lent}
+use Rattle.admission.specs.Input.{Lent, beside, pageBytesOf, limitOf, slotsOf, marksOf}
 use Rattle.admission.specs.Check.{checkRows}
-use Rattle.admission.specs.Recheck.{Call, recheck}
+use Rattle.admission.specs.Recheck.{Call, recheckOf}
 use Rattle.admission.specs.Meets.{meets}
 use Rattle.admission.specs.Demand3.{Book, opened, turnedDown, bookAfter1, bookAfter, wholeAnswer, due, Made, calls, Kept, lastMarks, Event, change, call, madeIn, LentFrom, Faithful, examines, pageAt, lastSeen, examinedPage, LowestDiffers, AnswersFor, Pages}
 use Rattle.admission.proofs.Meets.{met, unmet}
@@ -83,29 +83,29 @@ marked s image i u marks page e q =
 
 -- AFTER A WHOLE CHECK that passed tests 1 to 30
 
-module _ (x : Lent) (n : ℕ) (p : Passes (checkRows x (length (x .image)) n)) where
+module _ (x : Lent) (n : ℕ) (p : Passes (checkRows (beside x) (length (x .image)) n)) where
   abbrev s : List ℕ
   s = x .signature
 
   -- one call, lent the image's bytes where it examines
   page-call : (b : Book) → Held x b → (image : List ℕ) (c : Call) → (turnedDown s c ≡ 0 → LentFrom s image c) → (i : ℕ)
       → pageAt s (bookAfter1 s b c .image) i ≡ cond (examines s c i) (pageAt s image i) (pageAt s (b .image) i)
-  page-call b h image (recheck start size new) own i =
-      by-test (eqb (turnedDown s (recheck start size new)) 0) refl (meets s start size i) refl
+  page-call b h image (recheckOf start size new) own i =
+      by-test (eqb (turnedDown s (recheckOf start size new)) 0) refl (meets s start size i) refl
     where
-      by-test : (t : Bool) → eqb (turnedDown s (recheck start size new)) 0 ≡ t → (m : Bool) → meets s start size i ≡ m
-          → pageAt s (bookAfter1 s b (recheck start size new) .image) i ≡ cond (t && m) (pageAt s image i) (pageAt s (b .image) i)
+      by-test : (t : Bool) → eqb (turnedDown s (recheckOf start size new)) 0 ≡ t → (m : Bool) → meets s start size i ≡ m
+          → pageAt s (bookAfter1 s b (recheckOf start size new) .image) i ≡ cond (t && m) (pageAt s image i) (pageAt s (b .image) i)
       by-test true e true f =
           let z = eqb-true _ _ e in
           let l = input-passed s start size new z in
           let q = met s start size i f in
-          rw (book-examined s b (recheck start size new) e)
+          rw (book-examined s b (recheckOf start size new) e)
           (page-lent (pageBytesOf s) (limitOf s) (b .image) start size new (held-long x n p b h) (l .0) (l .1) image (own z) i (q .0) (q .1))
       by-test true e false f =
           let l = input-passed s start size new (eqb-true _ _ e) in
-          rw (book-examined s b (recheck start size new) e)
+          rw (book-examined s b (recheckOf start size new) e)
           (page-unmet (pageBytesOf s) (limitOf s) (b .image) start size new (held-long x n p b h) (l .0) (l .1) i (unmet s start size i f))
-      by-test false e m f = rw (book-stays s b (recheck start size new) e)
+      by-test false e m f = rw (book-stays s b (recheckOf start size new) e)
 
   -- so where the book has the pages seen before it, it has those seen after it
   seen-call : (b : Book) → Held x b → (image : List ℕ) (c : Call) → (turnedDown s c ≡ 0 → LentFrom s image c) → (i : ℕ) (seen : List ℕ)

@@ -7,51 +7,53 @@ use lib.ListN.{length}
 use Rattle.refusals.specs.declared.Answer.{Answer}
 use Rattle.refusals.specs.Refusals.{_<?_, _≡?_, _≢?_, holds, Row, row, refuse, accepted, first}
 use Rattle.layout.specs.CodeDirectory.{codeLimit, nCodeSlots}
-use Rattle.directory.specs.Rows.{signatureRows}
+use Rattle.directory.specs.Rows.{directory, signatureRows}
 use Rattle.slots.specs.Slots.{specialRows}
 use Rattle.trustcache.specs.Rows.{entryOf}
 use Rattle.trustcache.specs.Table.{cacheRows}
 use Rattle.pages.specs.Marks.{badRows}
 use Rattle.admission.specs.declared.Verdict.{Verdict}
-use Rattle.admission.specs.Input.{Lent, longest, directory, cdhash, marksOf}
+use Rattle.admission.specs.Input.{Beside, Lent, beside, longest, cdhash, marksOf}
 
 -- 19: image shorter than codeLimit
 unfoldable pub imageRows : List ℕ → ℕ → List Row
-imageRows s imageLength = row 19 (imageLength <? codeLimit (directory s)) 0 ∷ []
+imageRows d imageLength = row 19 (imageLength <? codeLimit d) 0 ∷ []
 
 -- 20: marks buffer not nCodeSlots bytes
 unfoldable pub countRows : List ℕ → ℕ → List Row
-countRows s marksLength = row 20 (marksLength ≢? nCodeSlots (directory s)) 0 ∷ []
+countRows d marksLength = row 20 (marksLength ≢? nCodeSlots d) 0 ∷ []
+
+-- 20, 21 to 23, and 24 to 30, of the directory d
+unfoldable pub laterRows : Beside → List ℕ → ℕ → List Row
+laterRows x d marksLength =
+    countRows d marksLength ++ (specialRows (x .signature) d (x .sides) ++ cacheRows (x .cache) (cdhash d) (x .facts))
 
 -- tests 1 to 30, by the lengths of the image and of the marks
-unfoldable pub checkRows : Lent → ℕ → ℕ → List Row
+unfoldable pub checkRows : Beside → ℕ → ℕ → List Row
 checkRows x imageLength marksLength =
     signatureRows (longest (x .sides)) (x .signature)
-    ++ (imageRows (x .signature) imageLength
-    ++ (countRows (x .signature) marksLength
-    ++ (specialRows (x .signature) (x .sides)
-    ++ cacheRows (x .cache) (cdhash (x .signature)) (x .facts))))
+    ++ (imageRows (directory (x .signature)) imageLength ++ laterRows x (directory (x .signature)) marksLength)
 
 -- the entry of the cache that has the directory's hash
-unfoldable pub entryFor : Lent → ℕ
-entryFor x = entryOf (x .cache) (cdhash (x .signature))
+unfoldable pub entryFor : Beside → ℕ
+entryFor x = entryOf (x .cache) (cdhash (directory (x .signature)))
 
 -- what tests 1 to 30 answer, with that entry where they pass
-abbrev pub checkTested : Lent → ℕ → ℕ → Answer
+abbrev pub checkTested : Beside → ℕ → ℕ → Answer
 checkTested x imageLength marksLength = first (checkRows x imageLength marksLength) (refuse 0 (entryFor x))
 
 -- tests 1 to 31
 unfoldable pub checkTable : Lent → ℕ → List Row
-checkTable x marksLength = checkRows x (length (x .image)) marksLength ++ badRows (marksOf (x .signature) (x .image))
+checkTable x marksLength = checkRows (beside x) (length (x .image)) marksLength ++ badRows (marksOf (x .signature) (x .image))
 
 -- what a whole check answers: accepted with the cache entry, or the first test that refuses
 unfoldable pub checkAnswer : Lent → ℕ → Answer
-checkAnswer x marksLength = first (checkTable x marksLength) (refuse 0 (entryFor x))
+checkAnswer x marksLength = first (checkTable x marksLength) (refuse 0 (entryFor (beside x)))
 
 -- the marks that it leaves: where tests 1 to 30 pass those of the image, else as they were
 unfoldable pub checkMarks : Lent → List ℕ → List ℕ
 checkMarks x marks =
-    cond (holds (first (checkRows x (length (x .image)) (length marks)) accepted .number ≡? 0)) (marksOf (x .signature) (x .image)) marks
+    cond (holds (first (checkRows (beside x) (length (x .image)) (length marks)) accepted .number ≡? 0)) (marksOf (x .signature) (x .image)) marks
 
 -- a whole check's own answer, made from an answer
 abbrev pub verdictOf : Answer → Verdict

@@ -14,7 +14,7 @@ use Rattle.pages.specs.Marks.{agrees}
 use Rattle.admission.specs.declared.Verdict.{Verdict}
 use Rattle.admission.specs.Input.{Lent, withImage, pageBytesOf, limitOf, slotsOf}
 use Rattle.admission.specs.Check.{Checked, checkAnswer, checkMarks}
-use Rattle.admission.specs.Recheck.{Call, recheck, inputRows, Rechecked}
+use Rattle.admission.specs.Recheck.{Call, recheckOf, inputRows, Rechecked}
 use Rattle.admission.specs.Meets.{meets, metBy, Meets}
 
 -- THE BOOK
@@ -34,7 +34,7 @@ turnedDown s c = first (inputRows s c) accepted .number
 
 -- a recheck that examines: its lent bytes replace the pages met
 abbrev pub examine : List ℕ → Book → Call → Book
-examine s b (recheck start size new) =
+examine s b (recheckOf start size new) =
     record {
       image = splice (b .image) (pageBytesOf s * metFirst (pageBytesOf s) start size) new;
       examined = λ i. meets s start size i || b .examined i;
@@ -135,7 +135,7 @@ madeIn (call m ∷ es) = m ∷ madeIn es
 
 -- a recheck is lent the image's bytes of the pages met
 abbrev pub LentFrom : List ℕ → List ℕ → Call → Type 0
-LentFrom s image (recheck start size new) =
+LentFrom s image (recheckOf start size new) =
     new ≡ part image (pageBytesOf s * metFirst (pageBytesOf s) start size) (metStop (pageBytesOf s) (limitOf s) start size)
 
 -- each change lies below the code limit, and each recheck that examines is lent the image's bytes of that time

@@ -4,19 +4,29 @@ use mathlib.Core.Bool.{Bool, cond}
 use mathlib.Core.List.{List}
 use mathlib.Core.Path.{_≡_}
 use lib.ListN.{length, take}
-use Rattle.endian.specs.Numbers.{big}
 use Rattle.digest.specs.Hash.{digest}
 use Rattle.digest.specs.Sha256.{sha256}
 use Rattle.refusals.specs.Refusals.{_<?_, pick}
-use Rattle.layout.specs.CodeDirectory.{codeLimit}
-use Rattle.superblob.specs.Rows.{blob}
+use Rattle.layout.specs.CodeDirectory.{slotWidth, codeLimit}
+use Rattle.layout.specs.TrustCache.{cdhashLength}
 use Rattle.directory.specs.Pages.{P}
-use Rattle.directory.specs.Rows.{codeSlots}
+use Rattle.directory.specs.Rows.{directory, codeSlots}
 use Rattle.slots.specs.Slots.{Sides, sides}
+use Rattle.trustcache.specs.Rows.{asNumber}
 use Rattle.trustcache.specs.declared.launch.Launch.{Launch}
 use Rattle.pages.specs.Pages.{pageCount}
 use Rattle.pages.specs.Marks as Marks
-use Rattle.pages.specs.Marks.{slotWidth}
+
+-- what a whole check is lent beside the image and the marks: what tests 1 to 30 read, but for two lengths
+pub record Beside : Type 0 where
+  pub signature : List ℕ
+  pub cache : List ℕ
+  pub sides : Sides
+  pub facts : Launch
+
+abbrev pub besides : List ℕ → List ℕ → Bool → List ℕ → Bool → List ℕ → Launch → Beside
+besides signature cache infoThere info resourcesThere resources facts =
+    record { signature = signature; cache = cache; sides = sides infoThere info resourcesThere resources; facts = facts }
 
 -- what a whole check is lent, but for the marks
 pub record Lent : Type 0 where
@@ -30,6 +40,9 @@ abbrev pub lent : List ℕ → List ℕ → List ℕ → Bool → List ℕ → B
 lent signature image cache infoThere info resourcesThere resources facts =
     record { signature = signature; image = image; cache = cache; sides = sides infoThere info resourcesThere resources; facts = facts }
 
+abbrev pub beside : Lent → Beside
+beside x = record { signature = x .signature; cache = x .cache; sides = x .sides; facts = x .facts }
+
 -- with another image
 abbrev pub withImage : Lent → List ℕ → Lent
 withImage x image = record { signature = x .signature; image = image; cache = x .cache; sides = x .sides; facts = x .facts }
@@ -41,10 +54,17 @@ longest x =
     (cond (x .resourcesThere) (length (x .resources)) 0)
     (cond (x .infoThere) (length (x .info)) 0)
 
--- OF A SIGNATURE: its directory, P, the code limit, the number and the bytes of the code slots
+-- OF A DIRECTORY d
 
-abbrev pub directory : List ℕ → List ℕ
-directory s = blob s 0
+-- the marks of an image
+abbrev pub marksBy : List ℕ → List ℕ → List ℕ
+marksBy d image = Marks.marksOf (P d) (codeLimit d) (codeSlots d) image
+
+-- its hash cut to 20 bytes, as a number whose first byte is the most significant
+unfoldable pub cdhash : List ℕ → ℕ
+cdhash d = asNumber (take cdhashLength (digest sha256 d))
+
+-- OF A SIGNATURE, by its directory: P, the code limit, and the bytes of the code slots
 
 abbrev pub pageBytesOf : List ℕ → ℕ
 pageBytesOf s = P (directory s)
@@ -55,16 +75,12 @@ limitOf s = codeLimit (directory s)
 abbrev pub slotsOf : List ℕ → List ℕ
 slotsOf s = codeSlots (directory s)
 
--- the directory's hash cut to 20 bytes, as a number whose first byte is the most significant
-unfoldable pub cdhash : List ℕ → ℕ
-cdhash s = big 20 (take 20 (digest sha256 (directory s))) 0
-
 -- the marks of an image
 abbrev pub marksOf : List ℕ → List ℕ → List ℕ
-marksOf s image = Marks.marksOf (pageBytesOf s) (limitOf s) (slotsOf s) image
+marksOf s image = marksBy (directory s) image
 
 -- what the writing of all marks requires: a slot and a mark for each page, in an image that reaches the limit
-pub record ImageHere (s image marks : List ℕ) : Type 0 where
-  pub slotted : slotWidth * pageCount (pageBytesOf s) (limitOf s) ≤ length (slotsOf s)
-  pub marked : length marks ≡ pageCount (pageBytesOf s) (limitOf s)
-  pub reached : limitOf s ≤ length image
+pub record ImageHere (d image marks : List ℕ) : Type 0 where
+  pub slotted : slotWidth * pageCount (P d) (codeLimit d) ≤ length (codeSlots d)
+  pub marked : length marks ≡ pageCount (P d) (codeLimit d)
+  pub reached : codeLimit d ≤ length image

@@ -9,7 +9,7 @@ use Rattle.refusals.specs.Refusals.{Passes}
 use Rattle.directory.specs.Rows.{signatureRows}
 use Rattle.pages.specs.Pages.{pageCount, pageStart, pageEnd, part, metFirst, metEnd}
 use Rattle.admission.specs.Input.{pageBytesOf, limitOf}
-use Rattle.admission.specs.Recheck.{Call, recheck}
+use Rattle.admission.specs.Recheck.{Call, recheckOf}
 
 -- a range meets page i
 abbrev pub meets : List ℕ → ℕ → ℕ → ℕ → Bool
@@ -17,11 +17,11 @@ meets s start size i = leb (metFirst (pageBytesOf s) start size) i && ltb i (met
 
 -- the range of a call meets page i
 abbrev pub metBy : List ℕ → Call → ℕ → Bool
-metBy s (recheck start size new) i = meets s start size i
+metBy s (recheckOf start size new) i = meets s start size i
 
 -- page i of the bytes that a call is lent, which begin where the first page met begins
 abbrev pub lentPage : List ℕ → Call → ℕ → List ℕ
-lentPage s (recheck start size new) i =
+lentPage s (recheckOf start size new) i =
     part new
     (pageStart (pageBytesOf s) i - pageStart (pageBytesOf s) (metFirst (pageBytesOf s) start size))
     (pageEnd (pageBytesOf s) (limitOf s) i - pageStart (pageBytesOf s) (metFirst (pageBytesOf s) start size))

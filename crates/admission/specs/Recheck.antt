@@ -6,7 +6,7 @@ use mathlib.Core.Path.{_≡_}
 use lib.ListN.{length}
 use Rattle.refusals.specs.declared.Answer.{Answer}
 use Rattle.refusals.specs.Refusals.{_≡?_, holds, Row, accepted, first}
-use Rattle.directory.specs.Rows.{signatureRows}
+use Rattle.directory.specs.Rows.{directory, signatureRows}
 use Rattle.pages.specs.Pages.{rangeRows}
 use Rattle.pages.specs.Marks as Marks
 use Rattle.pages.specs.Marks.{markRows, badRows}
@@ -15,19 +15,19 @@ use Rattle.admission.specs.Check.{countRows}
 
 -- a call after a whole check, as it is asked for: a recheck of `size` bytes from `start` on, lent the bytes of the pages met
 pub data Call : Type 0 where
-  recheck : ℕ → ℕ → List ℕ → Call
+  recheckOf : ℕ → ℕ → List ℕ → Call
 
 -- 32 and 33: what a call is turned down for
 unfoldable pub inputRows : List ℕ → Call → List Row
-inputRows s (recheck start size lent) = rangeRows (pageBytesOf s) (limitOf s) start size (length lent)
+inputRows s (recheckOf start size new) = rangeRows (pageBytesOf s) (limitOf s) start size (length new)
 
 -- the tests before the pages
 unfoldable pub callRows : List ℕ → Call → List ℕ → List Row
-callRows s c marks = signatureRows 0 s ++ (countRows s (length marks) ++ (inputRows s c ++ markRows marks))
+callRows s c marks = signatureRows 0 s ++ (countRows (directory s) (length marks) ++ (inputRows s c ++ markRows marks))
 
 -- the marks with those of the pages met written anew
 unfoldable pub remarked : List ℕ → Call → List ℕ → List ℕ
-remarked s (recheck start size lent) marks = Marks.remarked (pageBytesOf s) (limitOf s) (slotsOf s) start size lent marks
+remarked s (recheckOf start size new) marks = Marks.remarked (pageBytesOf s) (limitOf s) (slotsOf s) start size new marks
 
 -- what a recheck answers: 31 with the lowest page marked 1, or 0 with place 0, or the first test that refuses
 unfoldable pub callAnswer : List ℕ → Call → List ℕ → Answer

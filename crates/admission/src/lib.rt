@@ -10,14 +10,17 @@ ghost use mathlib.Core.Bool.{cond};
 ghost use mathlib.Core.List.{_++_};
 ghost use mathlib.Core.Path.{_≡_};
 ghost use lib.ListN.{length};
-ghost use Rattle.endian.specs.Numbers.{big};
 ghost use Rattle.refusals.specs.Refusals.{first, accepted};
-ghost use Rattle.slots.specs.Slots.{sides};
+ghost use Rattle.layout.specs.CodeDirectory.{codeLimit};
+ghost use Rattle.directory.specs.Pages.{P};
+ghost use Rattle.directory.specs.Rows.{codeSlots};
 ghost use Rattle.pages.specs.Pages.{rangeRows};
-ghost use Rattle.pages.specs.Marks.{RangeHere};
-ghost use Rattle.admission.specs.Input.{lent, longest, pageBytesOf, limitOf, slotsOf, cdhash, marksOf, ImageHere};
+ghost use Rattle.pages.specs.Marks.{remarked, RangeHere};
+ghost use Rattle.slots.specs.Slots.{sides};
+ghost use Rattle.trustcache.specs.Rows.{asNumber};
+ghost use Rattle.admission.specs.Input.{besides, lent, longest, cdhash, marksBy, ImageHere};
 ghost use Rattle.admission.specs.Check.{imageRows, countRows, checkTested, verdictOf, Checked};
-ghost use Rattle.admission.specs.Recheck.{recheck, callRows, remarked, Rechecked};
+ghost use Rattle.admission.specs.Recheck.{recheckOf, callRows, Rechecked};
 
 // What a whole check answers: a refusal number with its place, or 0 with the cache entry that lists the directory's hash.
 #[repr(C)]
@@ -42,7 +45,7 @@ pub fn check(
 {
     let tested = check_tested(
         signature,
-        image,
+        image.len(),
         marks.len(),
         cache,
         info_there,
@@ -54,20 +57,22 @@ pub fn check(
     if tested.number != 0 {
         return verdict_of(tested);
     }
-    write_marks(signature, image, marks);
+    let d = superblob::blob_of(signature, CodeDirectory::TYPE);
+    write_marks(d, image, marks);
     verdict_of(pages::judge(marks, tested.place))
 }
 
-// The recheck of `length` bytes from `start` on, lent the bytes of the pages met: tests 1 to 18, 20, 32, 33 and 34. A refusal by one of
+// The recheck of `size` bytes from `start` on, lent the bytes of the pages met: tests 1 to 18, 20, 32, 33 and 34. A refusal by one of
 // them leaves every mark; else the marks of the pages met are written, and the lowest page marked 1 is 31.
-pub fn recheck(signature: &[u8], start: u64, length: u64, bytes: &[u8], marks: &mut [u8]) -> Answer
-    ensures { λ r. ⌜ Rechecked (now (signature .entry)) (recheck start length (now (bytes .entry))) (now (marks .entry)) r (now (marks .exit)) ⌝ }
+pub fn recheck(signature: &[u8], start: u64, size: u64, contents: &[u8], marks: &mut [u8]) -> Answer
+    ensures { λ r. ⌜ Rechecked (now (signature .entry)) (recheckOf start size (now (contents .entry))) (now (marks .entry)) r (now (marks .exit)) ⌝ }
 {
-    let answer = recheck_tested(signature, start, length, bytes, marks);
+    let answer = recheck_tested(signature, start, size, contents, marks);
     if answer.number != 0 {
         return answer;
     }
-    rewrite_marks(signature, start, length, bytes, marks);
+    let d = superblob::blob_of(signature, CodeDirectory::TYPE);
+    rewrite_marks(d, start, size, contents, marks);
     pages::judge(marks, 0)
 }
 
@@ -81,11 +86,11 @@ fn verdict_of(answer: Answer) -> Verdict
     }
 }
 
-// Tests 1 to 30; `marks` is the number of marks. The place of a 0 is the directory's entry.
-fn check_tested(
+// Tests 1 to 30, by the lengths of the image and of the marks. The place of a 0 is the directory's entry.
+pub fn check_tested(
     signature: &[u8],
-    image: &[u8],
-    marks: usize,
+    image_length: usize,
+    marks_length: usize,
     cache: &[u8],
     info_there: bool,
     info: &[u8],
@@ -93,37 +98,39 @@ fn check_tested(
     resources: &[u8],
     launch: Launch,
 ) -> Answer
-    ensures { λ r. ⌜ r ≡ checkTested (lent (now (signature .entry)) (now (image .entry)) (now (cache .entry)) «info_there» (now (info .entry)) «resources_there» (now (resources .entry)) launch) (length (now (image .entry))) marks ⌝ }
+    ensures { λ r. ⌜ r ≡ checkTested (besides (now (signature .entry)) (now (cache .entry)) «info_there» (now (info .entry)) «resources_there» (now (resources .entry)) launch) «image_length» «marks_length» ⌝ }
 {
     let side = longest_side(info_there, info, resources_there, resources);
     let formed = directory::tested(signature, side);
     if formed.number != 0 {
         return formed;
     }
-    let sized = sizes_tested(signature, image.len(), marks);
+    let d = superblob::blob_of(signature, CodeDirectory::TYPE);
+    let sized = sizes_tested(d, image_length, marks_length);
     if sized.number != 0 {
         return sized;
     }
-    let sealed = slots::tested(signature, info_there, info, resources_there, resources);
-    if sealed.number != 0 {
-        return sealed;
+    let matched = slots::tested(signature, d, info_there, info, resources_there, resources);
+    if matched.number != 0 {
+        return matched;
     }
-    trustcache::tested(cache, directory_hash(signature), launch)
+    trustcache::tested(cache, directory_hash(d), launch)
 }
 
 // Tests 1 to 18, 20, 32, 33 and 34. No side file is lent.
-fn recheck_tested(signature: &[u8], start: u64, length: u64, bytes: &[u8], marks: &[u8]) -> Answer
-    ensures { λ r. ⌜ r ≡ first (callRows (now (signature .entry)) (recheck start length (now (bytes .entry))) (now (marks .entry))) accepted ⌝ }
+fn recheck_tested(signature: &[u8], start: u64, size: u64, contents: &[u8], marks: &[u8]) -> Answer
+    ensures { λ r. ⌜ r ≡ first (callRows (now (signature .entry)) (recheckOf start size (now (contents .entry))) (now (marks .entry))) accepted ⌝ }
 {
     let formed = directory::tested(signature, 0);
     if formed.number != 0 {
         return formed;
     }
-    let counted = count_tested(signature, marks.len());
+    let d = superblob::blob_of(signature, CodeDirectory::TYPE);
+    let counted = count_tested(d, marks.len());
     if counted.number != 0 {
         return counted;
     }
-    let input = input_tested(signature, start, length, bytes.len());
+    let input = input_tested(d, start, size, contents.len());
     if input.number != 0 {
         return input;
     }
@@ -131,10 +138,10 @@ fn recheck_tested(signature: &[u8], start: u64, length: u64, bytes: &[u8], marks
 }
 
 // The length of a side file, 0 where it is not there.
-fn side_length(there: bool, length: usize) -> usize
-    ensures { λ r. ⌜ r ≡ cond there length 0 ⌝ }
+fn side_length(there: bool, size: usize) -> usize
+    ensures { λ r. ⌜ r ≡ cond there size 0 ⌝ }
 {
-    if there { length } else { 0 }
+    if there { size } else { 0 }
 }
 
 // The length of the longest side file that is there, 0 where none is.
@@ -146,26 +153,24 @@ fn longest_side(info_there: bool, info: &[u8], resources_there: bool, resources:
     if a < b { b } else { a }
 }
 
-// Tests 19 and 20, by the lengths of the image and of the marks.
-fn sizes_tested(signature: &[u8], image: usize, marks: usize) -> Answer
-    ensures { λ r. ⌜ r ≡ first (imageRows (now (signature .entry)) image ++ countRows (now (signature .entry)) marks) accepted ⌝ }
+// Tests 19 and 20 of the directory d, by the lengths of the image and of the marks.
+fn sizes_tested(d: &[u8], image_length: usize, marks_length: usize) -> Answer
+    ensures { λ r. ⌜ r ≡ first (imageRows (now (d .entry)) «image_length» ++ countRows (now (d .entry)) «marks_length») accepted ⌝ }
 {
-    let head = CodeDirectory::read(superblob::find(signature, CodeDirectory::TYPE));
-    if image < head.code_limit {
+    if image_length < directory::code_limit(d) {
         return Answer {
             number: 19,
             place: 0,
         };
     }
-    count_tested(signature, marks)
+    count_tested(d, marks_length)
 }
 
-// Test 20, by the length of the marks.
-fn count_tested(signature: &[u8], marks: usize) -> Answer
-    ensures { λ r. ⌜ r ≡ first (countRows (now (signature .entry)) marks) accepted ⌝ }
+// Test 20 of the directory d, by the length of the marks.
+fn count_tested(d: &[u8], marks_length: usize) -> Answer
+    ensures { λ r. ⌜ r ≡ first (countRows (now (d .entry)) «marks_length») accepted ⌝ }
 {
-    let head = CodeDirectory::read(superblob::find(signature, CodeDirectory::TYPE));
-    if marks != head.code_slots {
+    if marks_length != CodeDirectory::read(d).code_slots {
         return Answer {
             number: 20,
             place: 0,
@@ -177,31 +182,34 @@ fn count_tested(signature: &[u8], marks: usize) -> Answer
     }
 }
 
-// Tests 32 and 33: the range, and the length of the lent bytes.
-fn input_tested(signature: &[u8], start: u64, length: u64, lent: usize) -> Answer
-    ensures { λ r. ⌜ r ≡ first (rangeRows (pageBytesOf (now (signature .entry))) (limitOf (now (signature .entry))) start length lent) accepted ⌝ }
+// Tests 32 and 33 of the directory d: the range, and how many bytes are given for it.
+fn input_tested(d: &[u8], start: u64, size: u64, given: usize) -> Answer
+    ensures { λ r. ⌜ r ≡ first (rangeRows (P (now (d .entry))) (codeLimit (now (d .entry))) start size given) accepted ⌝ }
 {
-    let head = directory::read(superblob::find(signature, CodeDirectory::TYPE));
-    pages::range_tested(head.page_size, head.code_limit, start, length, lent)
+    pages::range_tested(
+        directory::page_size(d),
+        directory::code_limit(d),
+        start,
+        size,
+        given,
+    )
 }
 
-// The first 20 bytes of the directory's hash.
-fn directory_hash(signature: &[u8]) -> [u8; 20]
-    ensures { λ r. ⌜ big 20 r 0 ≡ cdhash (now (signature .entry)) ⌝ }
+// The first 20 bytes of the hash of the directory d.
+fn directory_hash(d: &[u8]) -> [u8; 20]
+    ensures { λ r. ⌜ asNumber r ≡ cdhash (now (d .entry)) ⌝ }
 {
-    digest::cut(digest::digest(superblob::find(signature, CodeDirectory::TYPE)))
+    digest::cut(digest::digest(d))
 }
 
 // Hashes every page of the image and writes its mark.
-fn write_marks(signature: &[u8], image: &[u8], marks: &mut [u8])
-    requires { ⌜ ImageHere (now signature) (now image) (now marks) ⌝ }
-    ensures { λ r. ⌜ now (marks .exit) ≡ marksOf (now (signature .entry)) (now (image .entry)) ⌝ }
+fn write_marks(d: &[u8], image: &[u8], marks: &mut [u8])
+    requires { ⌜ ImageHere (now d) (now image) (now marks) ⌝ }
+    ensures { λ r. ⌜ now (marks .exit) ≡ marksBy (now (d .entry)) (now (image .entry)) ⌝ }
 {
-    let d = superblob::find(signature, CodeDirectory::TYPE);
-    let head = directory::read(d);
     pages::mark_pages(
-        head.page_size,
-        head.code_limit,
+        directory::page_size(d),
+        directory::code_limit(d),
         directory::code_slots(d),
         0,
         image,
@@ -210,21 +218,20 @@ fn write_marks(signature: &[u8], image: &[u8], marks: &mut [u8])
 }
 
 // Hashes the pages that a range meets and writes their marks. No other mark is touched.
-fn rewrite_marks(signature: &[u8], start: u64, length: u64, bytes: &[u8], marks: &mut [u8])
-    requires { ⌜ RangeHere (pageBytesOf (now signature)) (limitOf (now signature)) (slotsOf (now signature)) start length (now bytes) (now marks) ⌝ }
-    ensures { λ r. ⌜ now (marks .exit) ≡ remarked (now (signature .entry)) (recheck start length (now (bytes .entry))) (now (marks .entry)) ⌝ }
+fn rewrite_marks(d: &[u8], start: u64, size: u64, contents: &[u8], marks: &mut [u8])
+    requires { ⌜ RangeHere (P (now d)) (codeLimit (now d)) (codeSlots (now d)) start size (now contents) (now marks) ⌝ }
+    ensures { λ r. ⌜ now (marks .exit) ≡ remarked (P (now (d .entry))) (codeLimit (now (d .entry))) (codeSlots (now (d .entry))) start size (now (contents .entry)) (now (marks .entry)) ⌝ }
 {
-    let d = superblob::find(signature, CodeDirectory::TYPE);
-    let head = directory::read(d);
-    let p = head.page_size;
-    let first = pages::first_met(p, start as usize, length as usize);
-    let end = pages::end_met(p, start as usize, length as usize);
+    let p = directory::page_size(d);
+    let limit = directory::code_limit(d);
+    let first = pages::first_met(p, start as usize, size as usize);
+    let end = pages::end_met(p, start as usize, size as usize);
     pages::mark_pages(
         p,
-        head.code_limit,
+        limit,
         directory::code_slots(d),
         first,
-        bytes,
+        contents,
         &mut marks[first..end],
     );
 }

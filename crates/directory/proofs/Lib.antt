@@ -4,3 +4,4 @@ pub mod Versions
 pub mod Slots
 pub mod Formed
 pub mod Found
+pub mod Pages

@@ -7,3 +7,4 @@ pub mod Several
 pub mod Alike
 pub mod Ranges
 pub mod Plain
+pub mod Numbers

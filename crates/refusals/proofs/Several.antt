@@ -7,16 +7,11 @@ use mathlib.Core.Logic.{_⊎_, ⊎-elim}
 use lib.Dec.{ltb, eqb}
 use borrow.Author.Tests.{ltb-true, ltb-false, eqb-true, eqb-false}
 use native.Mathlib.Omega.{arith}
-use Rattle.refusals.specs.Refusals.{lowest, faulty, among, Passes, Decides, either, refuse, first}
+use Rattle.refusals.specs.Refusals.{lowest, faulty, among, Passes, Decides, either, refuse, first, OneOf}
 use Rattle.refusals.specs.declared.Answer.{Answer}
 use Rattle.refusals.proofs.Conditions.{said}
 use Rattle.refusals.proofs.Exact.{decides}
 use Rattle.refusals.proofs.Positions.{none-fails, lowest-below, lowest-fails}
-
--- x is one of the numbers, or 0
-abbrev pub OneOf : List ℕ → ℕ → Type 0
-OneOf [] x = x ≡ 0
-OneOf (n ∷ ns) x = (x ≡ n) ⊎ OneOf ns x
 
 pub clear-passes : (b : ℕ) (fault : ℕ → ℕ) (ns : List ℕ) → ((i : ℕ) → i < b → fault i ≡ 0) → Passes (among b fault ns)
 clear-passes b fault [] h = tt

@@ -10,7 +10,7 @@
 use Prim.Native.Nat.{ℕ, zero, suc, _<_, _≤_}
 use mathlib.Core.Bool.{Bool, true, false, not, cond, _&&_, _||_}
 use mathlib.Core.List.{List, [], _∷_}
-use mathlib.Core.Logic.{_↔_}
+use mathlib.Core.Logic.{_⊎_, _↔_}
 use mathlib.Core.Path.{_≡_}
 use lib.Dec.{ltb, leb, eqb}
 use Rattle.refusals.specs.declared.Answer.{Answer}
@@ -119,6 +119,11 @@ Passes (row m c q ∷ rows) = Says false c × Passes rows
 pub record Exact (rows : List Row) (done : Answer) : Type 0 where
   pub refuses : (n p : ℕ) → (n ≡ 0 → ⊥) → (first rows done ≡ refuse n p) ↔ Decides rows n p
   pub accepts : (first rows done .number ≡ 0) ↔ Passes rows
+
+-- x is one of the numbers, or 0
+abbrev pub OneOf : List ℕ → ℕ → Type 0
+OneOf [] x = x ≡ 0
+OneOf (n ∷ ns) x = (x ≡ n) ⊎ OneOf ns x
 
 -- WHAT A TEST OVER POSITIONS SAYS
 

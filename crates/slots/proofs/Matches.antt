@@ -14,9 +14,9 @@ use Rattle.digest.specs.Sha256.{sha256}
 use Rattle.digest.specs.Same.{same}
 use Rattle.digest.proofs.Equality.{same-equal, equal-same}
 use Rattle.refusals.specs.Ranges.{lookup}
-use Rattle.refusals.specs.Refusals.{holds, Passes}
+use Rattle.refusals.specs.Refusals.{holds, Passes, OneOf}
 use Rattle.refusals.proofs.Conditions.{says, said}
-use Rattle.refusals.proofs.Several.{OneOf, clear-passes, passes-clear}
+use Rattle.refusals.proofs.Several.{clear-passes, passes-clear}
 use Rattle.layout.specs.SuperBlob.{count, typeAt}
 use Rattle.superblob.specs.Rows.{slotMagics, magicOf, position, has, blobAt, blobOf}
 use Rattle.superblob.specs.Formed.{Formed}

@@ -11,14 +11,15 @@ use Rattle.endian.specs.Numbers.{big}
 use Rattle.digest.specs.Hash.{digest}
 use Rattle.digest.specs.Sha256.{sha256}
 use Rattle.refusals.specs.Refusals.{_≡?_, holds, pick, refuse, accepted, first}
-use Rattle.refusals.specs.Conditions.{said, pick-yes, pick-no}
-use Rattle.refusals.specs.Positions.{none-fails, first-fails}
+use Rattle.refusals.proofs.Conditions.{said, pick-yes, pick-no}
+use Rattle.refusals.proofs.Positions.{none-fails, first-fails}
 use Rattle.layout.specs.SuperBlob.{count, typeAt, offsetAt, blobLength}
 use Rattle.layout.specs.CodeDirectory.{version, flags, hashOffset, identOffset, nSpecialSlots, nCodeSlots, codeLimit, hashSize, hashType, platform, pageSize}
 use Rattle.pages.specs.Pages.{pageBytes}
 use Rattle.superblob.specs.Rows.{rows, ofType, position, present, blobStart, blobEnd, blob}
-use Rattle.superblob.specs.Formed.{formed}
-use Rattle.superblob.specs.Blobs.{found-blob, blob-none, blob-refused}
+use Rattle.superblob.proofs.Formed.{formed}
+use Rattle.superblob.proofs.Lookup.{found-blob}
+use Rattle.superblob.specs.Blobs.{blob-none, blob-refused}
 use Rattle.directory.specs.Pages.{P}
 use Rattle.directory.specs.Rows.{signatureRows}
 use Rattle.directory.specs.Formed.{WellFormed, superblob-passes, directory-read}

@@ -8,7 +8,7 @@ use borrow.Fn.World.{ArgsD, ResD}
 use borrow.Fn.Kinds.{endedOf}
 use Rattle.admission.specs.Input.{lent}
 use Rattle.admission.specs.Check.{Checked}
-use Rattle.admission.specs.Recheck.{recheck, Rechecked}
+use Rattle.admission.specs.Recheck.{recheckOf, Rechecked}
 use Rattle.trewizlow.proofs.Bytes.{BlobShown, blob-shown, DirectoryShown, directory-shown, HashShown, hash-shown}
 use Rattle.trewizlow.proofs.trewizlow_check.Reads as check-reads
 use Rattle.trewizlow.proofs.trewizlow_check.Kinds as check-kinds
@@ -41,7 +41,7 @@ module _ (κs : Lfts 3) (a : ArgsD Rattle.trewizlow.proofs.trewizlow_re
   pub recheck-says : (r : ResD Rattle.trewizlow.proofs.trewizlow_recheck.signature κs)
       (e : AtExit (endedOf 3 recheck-kinds.ps recheck-kinds.r) κs)
       → recheck-reads.Learnt κs a r e
-      → Rechecked (now (a .0)) (recheck (a .1 .0) (a .1 .1 .0) (now (a .1 .1 .1 .0))) (now (a .1 .1 .1 .1 .0)) r (now (e .1 .1 .1 .1 .0))
+      → Rechecked (now (a .0)) (recheckOf (a .1 .0) (a .1 .1 .0) (now (a .1 .1 .1 .0))) (now (a .1 .1 .1 .1 .0)) r (now (e .1 .1 .1 .1 .0))
   recheck-says r e h = h
 
 -- A LOOKUP. Arguments in order: signature, slot_type

@@ -8,7 +8,7 @@ use lib.ListN.{length, take, drop, replicate, length-drop}
 use lib.Seq.{length-take-le}
 use Rattle.refusals.specs.declared.Answer.{Answer}
 use Rattle.refusals.specs.Refusals.{_≡?_}
-use Rattle.refusals.specs.Conditions.{says}
+use Rattle.refusals.proofs.Conditions.{says}
 use Rattle.digest.specs.Hash.{digest}
 use Rattle.digest.specs.Sha256.{sha256}
 use Rattle.superblob.specs.declared.Span.{Span}

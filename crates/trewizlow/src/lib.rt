@@ -7,7 +7,7 @@ ghost use mathlib.Core.Path.{_≡_};
 ghost use Rattle.superblob.specs.Rows.{blobStart, blob};
 ghost use Rattle.admission.specs.Input.{lent};
 ghost use Rattle.admission.specs.Check.{Checked};
-ghost use Rattle.admission.specs.Recheck.{recheck, Rechecked};
+ghost use Rattle.admission.specs.Recheck.{recheckOf, Rechecked};
 ghost use Rattle.trewizlow.specs.Interface.{blobPart, fieldsOf, noFields, directoryFields, directoryHash};
 
 // The whole check.
@@ -47,7 +47,7 @@ pub extern "C" fn trewizlow_recheck(
     contents: &[u8],
     marks: &mut [u8],
 ) -> Answer
-    ensures { λ r. ⌜ Rechecked (now (signature .entry)) (recheck start size (now (contents .entry))) (now (marks .entry)) r (now (marks .exit)) ⌝ }
+    ensures { λ r. ⌜ Rechecked (now (signature .entry)) (recheckOf start size (now (contents .entry))) (now (marks .entry)) r (now (marks .exit)) ⌝ }
 {
     admission::recheck(signature, start, size, contents, marks)
 }

@@ -1,14 +1,13 @@
 -- The search has passed every byte below i, none of them zero.
 use mathlib.Core.List.{List}
 use lib.ListN.{getD}
-use Rattle.refusals.specs.Refusals.{holds}
+use Rattle.refusals.specs.Refusals.{holds, lowest}
 use Prim.Native.Nat.{ℕ, _+_, _-_, _≤_}
 use mathlib.Core.Path.{_≡_, _∙_}
 use native.Mathlib.Omega.{arith}
 use mathlib.Core.Bool.{true, false}
 use lib.ListN.{length}
 use Rattle.refusals.proofs.Conditions.{says}
-use Rattle.refusals.specs.Refusals.{lowest}
 use Rattle.refusals.proofs.Positions.{lowest-none, lowest-more, lowest-stop, lowest-end}
 use Rattle.layout.specs.CodeDirectory.{identOffset}
 use Rattle.directory.specs.Rows.{zeroAt, identLength}
