@@ -1,49 +1,35 @@
+-- A refusal by the tests stands and leaves the marks; where they pass all marks are written and judged.
+use Rattle.admission.proofs.Calls.{check-refused, image-here, check-judged}
 use borrow.Author.Needs.{needs}
 use Rattle.admission.proofs.check.Statement.{statement}
 use Rattle.admission.proofs.check.Tie as tie
-use Rattle.admission.proofs.check.Reads as reads
-use Rattle.admission.proofs.check.Lts as lts
-use Rattle.admission.proofs.check_tested.Reads as check-tested-reads
-use Rattle.admission.proofs.verdict_of.Reads as verdict-of-reads
-use Rattle.admission.proofs.write_marks.Reads as write-marks-reads
-use Rattle.pages.proofs.judge.Reads as judge-reads
-use Rattle.superblob.proofs.blob_of.Reads as blob-of-reads
 
--- src/lib.rt:46:9
 check-tested-requires : tie.Need-check-tested-requires
 check-tested-requires c κs = search needs
 
--- src/lib.rt:58:9
 verdict-of-requires : tie.Need-verdict-of-requires
 verdict-of-requires c κs = search needs
 
--- src/lib.rt:58:9
 returns : tie.Need-returns
-returns c = ?
+returns c = check-refused _ _ _ (c .before .before .before .check-tested .ensures) (c .before .if1 .taken) _ (c .verdict-of .ensures)
 
--- src/lib.rt:60:9
 blob-of-requires : tie.Need-blob-of-requires
 blob-of-requires c κs = search needs
 
--- src/lib.rt:61:5
 write-marks-requires : tie.Need-write-marks-requires
-write-marks-requires c κs = ?
+write-marks-requires c κs = image-here _ _ _ (c .before .before .before .before .check-tested .ensures) (c .before .before .if1 .left) _ (c .before .blob-of .ensures)
 
--- src/lib.rt:62:16
 judge-requires : tie.Need-judge-requires
 judge-requires c κs = search needs
 
--- src/lib.rt:62:5
 verdict-of-requires-2 : tie.Need-verdict-of-requires-2
 verdict-of-requires-2 c κs = search needs
 
--- src/lib.rt:33:1
 same-length : tie.Need-same-length
 same-length c = search needs
 
--- src/lib.rt:33:1
 returns-2 : tie.Need-returns-2
-returns-2 c = ?
+returns-2 c = check-judged _ _ _ (c .before .before .before .before .before .before .before .before .before .before .check-tested .ensures) (c .before .before .before .before .before .before .before .before .if1 .left) _ (c .before .before .before .before .before .before .before .blob-of .ensures) _ (c .before .before .before .before .before .write-marks .ensures) _ (c .before .judge .ensures) _ (c .verdict-of2 .ensures)
 
 pub check-spec : {M : Type 1} → statement M
 check-spec =

@@ -1,21 +1,17 @@
+-- The field that is read is compared.
+use Rattle.admission.proofs.Tests.{count-differs, count-agrees}
 use borrow.Author.Needs.{needs}
 use Rattle.admission.proofs.count_tested.Statement.{statement}
 use Rattle.admission.proofs.count_tested.Tie as tie
-use Rattle.admission.proofs.count_tested.Reads as reads
-use Rattle.admission.proofs.count_tested.Lts as lts
-use Rattle.layout.proofs.directory.CodeDirectory.read.Reads as read-reads
 
--- src/lib.rt:173:24
 read-requires : tie.Need-read-requires
 read-requires c κs = search needs
 
--- src/lib.rt:174:9
 returns : tie.Need-returns
-returns c = ?
+returns c = count-differs _ 0 _ _ (c .before .before .read .ensures .nCodeSlots-is) (c .if1 .taken)
 
--- src/lib.rt:170:1
 returns-2 : tie.Need-returns-2
-returns-2 c = ?
+returns-2 c = count-agrees _ 0 _ _ (c .before .before .read .ensures .nCodeSlots-is) (c .if1 .left)
 
 pub count-tested-spec : {M : Type 1} → statement M
 count-tested-spec = tie.close (tie.spec read-requires returns returns-2)

@@ -1,27 +1,20 @@
+-- Tests 32 and 33, of the page size and the code limit that are read.
+use mathlib.Core.Path.{_∙_}
 use borrow.Author.Needs.{needs}
 use Rattle.admission.proofs.input_tested.Statement.{statement}
 use Rattle.admission.proofs.input_tested.Tie as tie
-use Rattle.admission.proofs.input_tested.Reads as reads
-use Rattle.admission.proofs.input_tested.Lts as lts
-use Rattle.directory.proofs.code_limit.Reads as code-limit-reads
-use Rattle.directory.proofs.page_size.Reads as page-size-reads
-use Rattle.pages.proofs.range_tested.Reads as range-tested-reads
 
--- src/lib.rt:190:9
 page-size-requires : tie.Need-page-size-requires
 page-size-requires c κs = search needs
 
--- src/lib.rt:191:9
 code-limit-requires : tie.Need-code-limit-requires
 code-limit-requires c κs = search needs
 
--- src/lib.rt:189:5
 range-tested-requires : tie.Need-range-tested-requires
 range-tested-requires c κs = search needs
 
--- src/lib.rt:186:1
 returns : tie.Need-returns
-returns c = ?
+returns c = rw (← c .before .before .page-size .ensures, ← c .before .code-limit .ensures .0) (c .range-tested .ensures)
 
 pub input-tested-spec : {M : Type 1} → statement M
 input-tested-spec =

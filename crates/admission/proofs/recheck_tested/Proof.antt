@@ -1,49 +1,35 @@
+-- Each group of tests is one call. A refusal stands before all later groups, and where it passes the next decides.
+use Rattle.admission.proofs.Tests.{call-formed-stops, counted-stops, input-stops, input-goes}
 use borrow.Author.Needs.{needs}
 use Rattle.admission.proofs.recheck_tested.Statement.{statement}
 use Rattle.admission.proofs.recheck_tested.Tie as tie
-use Rattle.admission.proofs.recheck_tested.Reads as reads
-use Rattle.admission.proofs.recheck_tested.Lts as lts
-use Rattle.admission.proofs.count_tested.Reads as count-tested-reads
-use Rattle.admission.proofs.input_tested.Reads as input-tested-reads
-use Rattle.directory.proofs.tested.Reads as tested-reads
-use Rattle.pages.proofs.marks_tested.Reads as marks-tested-reads
-use Rattle.superblob.proofs.blob_of.Reads as blob-of-reads
 
--- src/lib.rt:124:9
 tested-requires : tie.Need-tested-requires
 tested-requires c κs = search needs
 
--- src/lib.rt:126:9
 returns : tie.Need-returns
-returns c = ?
+returns c = call-formed-stops _ _ _ _ _ _ (c .before .before .tested .ensures) (c .if1 .taken)
 
--- src/lib.rt:128:9
 blob-of-requires : tie.Need-blob-of-requires
 blob-of-requires c κs = search needs
 
--- src/lib.rt:129:9
 count-tested-requires : tie.Need-count-tested-requires
 count-tested-requires c κs = search needs
 
--- src/lib.rt:131:9
 returns-2 : tie.Need-returns-2
-returns-2 c = ?
+returns-2 c = counted-stops _ _ _ _ _ _ (c .before .before .before .before .before .before .tested .ensures) (c .before .before .before .before .if1 .left) _ (c .before .before .before .blob-of .ensures) _ (c .before .before .count-tested .ensures) (c .if2 .taken)
 
--- src/lib.rt:133:9
 input-tested-requires : tie.Need-input-tested-requires
 input-tested-requires c κs = search needs
 
--- src/lib.rt:135:9
 returns-3 : tie.Need-returns-3
-returns-3 c = ?
+returns-3 c = input-stops _ _ _ _ _ _ (c .before .before .before .before .before .before .before .before .before .tested .ensures) (c .before .before .before .before .before .before .before .if1 .left) _ (c .before .before .before .before .before .before .blob-of .ensures) _ (c .before .before .before .before .before .count-tested .ensures) (c .before .before .before .if2 .left) _ (c .before .before .input-tested .ensures) (c .if3 .taken)
 
--- src/lib.rt:137:5
 marks-tested-requires : tie.Need-marks-tested-requires
 marks-tested-requires c κs = search needs
 
--- src/lib.rt:121:1
 returns-4 : tie.Need-returns-4
-returns-4 c = ?
+returns-4 c = input-goes _ _ _ _ _ _ (c .before .before .before .before .before .before .before .before .before .before .tested .ensures) (c .before .before .before .before .before .before .before .before .if1 .left) _ (c .before .before .before .before .before .before .before .blob-of .ensures) _ (c .before .before .before .before .before .before .count-tested .ensures) (c .before .before .before .before .if2 .left) _ (c .before .before .before .input-tested .ensures) (c .before .if3 .left) _ (c .marks-tested .ensures)
 
 pub recheck-tested-spec : {M : Type 1} → statement M
 recheck-tested-spec =

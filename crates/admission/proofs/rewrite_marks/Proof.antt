@@ -1,58 +1,47 @@
+-- The pages met are cut out of the marks, marked from the contents, and put back.
+use native.Mathlib.Omega.{arith}
+use denote.Ref.{now}
+use lib.ListN.{length}
+use Rattle.admission.proofs.Read.{Inside, met-inside, met-here, met-marked}
 use borrow.Author.Needs.{needs}
 use Rattle.admission.proofs.rewrite_marks.Statement.{statement}
 use Rattle.admission.proofs.rewrite_marks.Tie as tie
-use Rattle.admission.proofs.rewrite_marks.Reads as reads
-use Rattle.admission.proofs.rewrite_marks.Lts as lts
-use Rattle.directory.proofs.code_limit.Reads as code-limit-reads
-use Rattle.directory.proofs.code_slots.Reads as code-slots-reads
-use Rattle.directory.proofs.page_size.Reads as page-size-reads
-use Rattle.pages.proofs.end_met.Reads as end-met-reads
-use Rattle.pages.proofs.first_met.Reads as first-met-reads
-use Rattle.pages.proofs.mark_pages.Reads as mark-pages-reads
 
--- src/lib.rt:225:9
+inside : (c : tie.After-code-slots) → Inside (c .before .before .first-met .result) (c .before .end-met .result) (length (now (c .before .before .before .before .before .before .before .before .args .marks)))
+inside c = met-inside _ _ _ _ (c .before .before .before .before .page-size .ensures) (c .before .before .before .code-limit .ensures .0) (c .code-slots .ensures) _ _ _ _ (c .before .before .before .before .before .before .before .before .pre) _ _ (c .before .before .first-met .ensures) (c .before .end-met .ensures)
+
 page-size-requires : tie.Need-page-size-requires
 page-size-requires c κs = search needs
 
--- src/lib.rt:226:9
 code-limit-requires : tie.Need-code-limit-requires
 code-limit-requires c κs = search needs
 
--- src/lib.rt:227:9
 first-met-requires : tie.Need-first-met-requires
 first-met-requires c κs = search needs
 
--- src/lib.rt:228:9
 end-met-requires : tie.Need-end-met-requires
 end-met-requires c κs = search needs
 
--- src/lib.rt:232:9
 code-slots-requires : tie.Need-code-slots-requires
 code-slots-requires c κs = search needs
 
--- src/lib.rt:235:9
 sub-mark-pages : tie.Need-sub-mark-pages
-sub-mark-pages c = ?
+sub-mark-pages c = let m = inside c in omega arith
 
--- src/lib.rt:235:9
 part-mark-pages-start : tie.Need-part-mark-pages-start
-part-mark-pages-start c = ?
+part-mark-pages-start c = let m = inside c in omega arith
 
--- src/lib.rt:235:9
 part-mark-pages-end : tie.Need-part-mark-pages-end
-part-mark-pages-end c = ?
+part-mark-pages-end c = let m = inside c in omega arith
 
--- src/lib.rt:229:5
 mark-pages-requires : tie.Need-mark-pages-requires
-mark-pages-requires c κs = ?
+mark-pages-requires c κs = met-here _ _ _ _ (c .before .before .before .before .before .page-size .ensures) (c .before .before .before .before .code-limit .ensures .0) (c .before .code-slots .ensures) _ _ _ _ (c .before .before .before .before .before .before .before .before .before .pre) _ _ (c .before .before .before .first-met .ensures) (c .before .before .end-met .ensures)
 
--- src/lib.rt:221:1
 same-length : tie.Need-same-length
 same-length c = search needs
 
--- src/lib.rt:221:1
 returns : tie.Need-returns
-returns c = ?
+returns c = met-marked _ _ _ _ (c .before .before .before .before .before .before .before .before .page-size .ensures) (c .before .before .before .before .before .before .before .code-limit .ensures .0) (c .before .before .before .before .code-slots .ensures) _ _ _ _ (c .before .before .before .before .before .before .before .before .before .before .before .before .pre) _ _ (c .before .before .before .before .before .before .first-met .ensures) (c .before .before .before .before .before .end-met .ensures) _ (c .before .before .mark-pages .ensures)
 
 pub rewrite-marks-spec : {M : Type 1} → statement M
 rewrite-marks-spec =

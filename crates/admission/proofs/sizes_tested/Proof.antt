@@ -1,26 +1,20 @@
+-- Test 19 by the code limit that is read, and where it passes test 20.
+use Rattle.admission.proofs.Tests.{image-short, image-long}
 use borrow.Author.Needs.{needs}
 use Rattle.admission.proofs.sizes_tested.Statement.{statement}
 use Rattle.admission.proofs.sizes_tested.Tie as tie
-use Rattle.admission.proofs.sizes_tested.Reads as reads
-use Rattle.admission.proofs.sizes_tested.Lts as lts
-use Rattle.admission.proofs.count_tested.Reads as count-tested-reads
-use Rattle.directory.proofs.code_limit.Reads as code-limit-reads
 
--- src/lib.rt:160:23
 code-limit-requires : tie.Need-code-limit-requires
 code-limit-requires c κs = search needs
 
--- src/lib.rt:161:9
 returns : tie.Need-returns
-returns c = ?
+returns c = image-short _ _ _ _ (c .before .code-limit .ensures .0) (c .if1 .taken)
 
--- src/lib.rt:166:5
 count-tested-requires : tie.Need-count-tested-requires
 count-tested-requires c κs = search needs
 
--- src/lib.rt:157:1
 returns-2 : tie.Need-returns-2
-returns-2 c = ?
+returns-2 c = image-long _ _ _ _ _ (c .before .before .code-limit .ensures .0) (c .before .if1 .left) (c .count-tested .ensures)
 
 pub sizes-tested-spec : {M : Type 1} → statement M
 sizes-tested-spec =
