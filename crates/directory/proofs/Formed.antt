@@ -10,7 +10,7 @@ use lib.ListN.{length, getD}
 use borrow.Author.Tests.{eqb-true, eqb-false}
 use Rattle.refusals.specs.Refusals.{Passes}
 use Rattle.refusals.proofs.Conditions.{said}
-use Rattle.refusals.proofs.Positions.{lowest-fails, lowest-most, some-fails}
+use Rattle.refusals.proofs.Positions.{lowest-before, lowest-fails, lowest-most, some-fails}
 use Rattle.refusals.proofs.Joined.{passes-append, append-passes}
 use Rattle.layout.specs.CodeDirectory.{identOffset, pageSize}
 use Rattle.superblob.specs.Rows.{rows}
@@ -53,6 +53,23 @@ unfolding identLength zeroAt
 ident-passes d j l u z e =
     let q : identOffset d + (j - identOffset d) ≡ j = omega arith in
     omega (arith, some-fails (zeroAt d) (length d - identOffset d) (j - identOffset d) (omega arith) (rw q z))
+
+-- the identifier of a well-formed directory ends at its first zero byte, inside the directory
+pub record Identifier (d : List ℕ) : Type 0 where
+  pub inside : identOffset d + identLength d < length d
+  pub ends : getD d (identOffset d + identLength d) 0 ≡ 0
+  pub not-before : (i : ℕ) → i < identLength d → getD d (identOffset d + i) 0 ≡ 0 → ⊥
+
+not-zero : (d : List ℕ) (i : ℕ) → i < identLength d → getD d (identOffset d + i) 0 ≡ 0 → ⊥
+unfolding identLength zeroAt
+not-zero d i h = said false (zeroAt d i) (lowest-before (zeroAt d) (length d - identOffset d) i h)
+
+pub identifier : (d : List ℕ) → DirectoryFormed d → Identifier d
+identifier d f =
+    let w = f .ident-ends in
+    let ne = ident-passes d (w .0) (w .1 .0) (w .1 .1 .0) (w .1 .1 .1) in
+    let l : identLength d < length d - identOffset d = omega (arith, ident-most d, ne) in
+    record { inside = omega arith; ends = ends d l; not-before = not-zero d }
 
 -- THE DIRECTORY
 

@@ -116,6 +116,10 @@ has s t = position s t <? count s
 unfoldable pub blobAt : List ℕ → ℕ → List ℕ
 blobAt s i = take (blobLength s i) (drop (offsetAt s i) s)
 
+-- where the blob at a type's position starts
+abbrev pub startOf : List ℕ → ℕ → ℕ
+startOf s t = offsetAt s (position s t)
+
 -- the blob at a type's position: the blob of that type, where tests 1 to 9 pass and the index has it
 unfoldable pub blobOf : List ℕ → ℕ → List ℕ
 blobOf s t = blobAt s (position s t)

@@ -8,7 +8,7 @@ ghost use mathlib.Core.Path.{_≡_};
 ghost use Prim.Native.Nat.{_<_};
 ghost use Rattle.refusals.specs.Refusals.{holds, lowest, first, accepted, refuse};
 ghost use Rattle.layout.specs.SuperBlob.{indexEnd, typeAt, offsetAt, blobMagic, blobLength, count};
-ghost use Rattle.superblob.specs.Rows.{magicOf, outside, shared, clashing, failing, headRows, indexRows, rows, position, has, blobOf, Found, blob};
+ghost use Rattle.superblob.specs.Rows.{magicOf, outside, shared, clashing, failing, headRows, indexRows, rows, position, has, startOf, blobOf, Found, blob};
 use layout::directory::CodeDirectory;
 use layout::parts::part;
 use layout::superblob::Blob;
@@ -76,6 +76,13 @@ pub fn has(sig: &[u8], slot_type: u32) -> bool
     ensures { λ r. ⌜ r ≡ holds (has (now (sig .entry)) «slot_type») ⌝ }
 {
     position_of(sig, slot_type as usize) < SuperBlob::read(sig).count
+}
+
+// Where the blob at a type's position of the index starts.
+pub fn start_of(sig: &[u8], slot_type: u32) -> usize
+    ensures { λ r. ⌜ r ≡ startOf (now (sig .entry)) «slot_type» ⌝ }
+{
+    offset_at(sig, position_of(sig, slot_type as usize))
 }
 
 // The blob at a type's position of the index, its head included: for callers behind test 9, which has the SuperBlob well formed. Of other bytes

@@ -4,25 +4,28 @@ use Prim.Native.Nat.{ℕ, zero, suc, _+_, _-_, _*_, _^_, _<_, _≤_}
 use mathlib.Core.Bool.{Bool, true, false, cond}
 use mathlib.Core.List.{List, [], _∷_}
 use mathlib.Core.Logic.{⊎-elim}
-use mathlib.Core.Path.{_≡_, refl, sym, ap, _∙_}
+use mathlib.Core.Path.{_≡_, refl, sym, ap, subst, _∙_}
 use native.Mathlib.Omega.{arith}
 use lib.ListN.{length, getD, take, drop, replicate}
 use Rattle.endian.specs.Numbers.{big}
 use Rattle.digest.specs.Hash.{digest}
 use Rattle.digest.specs.Sha256.{sha256}
-use Rattle.refusals.specs.Refusals.{_≡?_, holds, pick, refuse, accepted, first}
+use Rattle.refusals.specs.Refusals.{_≡?_, holds, pick, refuse, accepted, first, Passes}
 use Rattle.refusals.proofs.Conditions.{said, pick-yes, pick-no}
-use Rattle.refusals.proofs.Positions.{none-fails, first-fails}
+use Rattle.refusals.proofs.Positions.{none-fails}
+use Rattle.refusals.proofs.Exact.{passes-zero}
 use Rattle.layout.specs.SuperBlob.{count, typeAt, offsetAt, blobLength}
-use Rattle.layout.specs.CodeDirectory.{version, flags, hashOffset, identOffset, nSpecialSlots, nCodeSlots, codeLimit, hashSize, hashType, platform, pageSize}
+use Rattle.layout.specs.CodeDirectory.{directoryType, version, flags, hashOffset, identOffset, nSpecialSlots, nCodeSlots, codeLimit, hashSize, hashType, platform, pageSize}
 use Rattle.pages.specs.Pages.{pageBytes}
-use Rattle.superblob.specs.Rows.{rows, ofType, position, present, blobStart, blobEnd, blob}
-use Rattle.superblob.proofs.Formed.{formed}
-use Rattle.superblob.proofs.Lookup.{found-blob}
-use Rattle.superblob.specs.Blobs.{blob-none, blob-refused}
+use Rattle.superblob.specs.Rows.{rows, ofType, position, has, present, startOf, blobAt, blobOf, blobStart, blobEnd, blob}
+use Rattle.superblob.proofs.Numbers.{rows-exact}
+use Rattle.superblob.proofs.Formed.{formed, formed-exactly}
+use Rattle.superblob.proofs.Lookup.{at-position, has-position, lookups}
 use Rattle.directory.specs.Pages.{P}
-use Rattle.directory.specs.Rows.{signatureRows}
-use Rattle.directory.specs.Formed.{WellFormed, superblob-passes, directory-read}
+use Rattle.directory.specs.Rows.{directory, signatureRows}
+use Rattle.directory.specs.Formed.{DirectoryFormed, SignatureFormed}
+use Rattle.directory.proofs.Numbers.{signatureRows-exact}
+use Rattle.directory.proofs.Formed.{identifier, signature-exactly}
 use Rattle.trewizlow.specs.declared.BlobPart.{BlobPart}
 use Rattle.trewizlow.specs.declared.DirectoryFields.{DirectoryFields}
 use Rattle.trewizlow.specs.declared.DirectoryHash.{DirectoryHash}
@@ -37,18 +40,13 @@ pub record Lies (s : List ℕ) (t at size : ℕ) : Type 0 where
   pub missing : ((i : ℕ) → i < big 4 s 8 → big 4 s (12 + 8 * i) ≡ t → ⊥) → (at ≡ 0) × (size ≡ 0)
   pub is-blob : take size (drop at s) ≡ blob s t
 
-starts : (s : List ℕ) (t : ℕ) → first (rows 0 s) accepted .number ≡ 0 → position s t < count s → blobStart s t ≡ offsetAt s (position s t)
-unfolding blobStart present
-starts s t z h = sym (pick-yes (present s t) (offsetAt s (position s t)) 0 (offsetAt s (position s t)) (z, h) refl)
+starts : (s : List ℕ) (t : ℕ) → Passes (rows 0 s) → position s t < count s → blobStart s t ≡ startOf s t
+unfolding blobStart present has
+starts s t p h = sym (pick-yes (present s t) (startOf s t) 0 (startOf s t) (passes-zero (rows 0 s) accepted refl p, h) refl)
 
 starts-nowhere : (s : List ℕ) (t : ℕ) → (first (rows 0 s) accepted .number ≡ 0 → count s ≤ position s t) → blobStart s t ≡ 0
-unfolding blobStart present
-starts-nowhere s t h = sym (pick-no (present s t) (offsetAt s (position s t)) 0 0 h refl)
-
-one-position : (s : List ℕ) (t i : ℕ) → first (rows 0 s) accepted .number ≡ 0 → i < count s → typeAt s i ≡ t → position s t ≡ i
-unfolding position ofType
-one-position s t i z h e =
-    first-fails (ofType s t) (count s) i h (λ k l q. formed 0 s z .distinct k i l h (q ∙ sym e)) e
+unfolding blobStart present has
+starts-nowhere s t h = sym (pick-no (present s t) (startOf s t) 0 0 h refl)
 
 no-position : (s : List ℕ) (t : ℕ) → ((i : ℕ) → i < count s → typeAt s i ≡ t → ⊥) → position s t ≡ count s
 unfolding position ofType
@@ -63,20 +61,23 @@ is-part : (s : List ℕ) (t : ℕ) → take (length (blob s t)) (drop (blobStart
 unfolding blob
 is-part s t = take-part (blobEnd s t - blobStart s t) (drop (blobStart s t) s)
 
-lies : (s : List ℕ) (t : ℕ) → first (rows 0 s) accepted .number ≡ 0 → Lies s t (blobStart s t) (length (blob s t))
+lies : (s : List ℕ) (t : ℕ) → Passes (rows 0 s) → Lies s t (blobStart s t) (length (blob s t))
 unfolding count typeAt offsetAt blobLength
 lies s t z =
+    let l = lookups s t in
     record {
       listed =
           λ i h e.
-          let p = one-position s t i z h e in
-          let l : position s t < count s = omega arith in
-          let o = starts s t z l in
-          (o ∙ ap (offsetAt s) p, found-blob 0 s t z l .length-is ∙ ap (λ (x : ℕ). big 4 s (x + 4)) (sym o));
+          let f = formed 0 s z in
+          let p = at-position s f i t h e in
+          let u = has-position s f i t h e in
+          let w = l .finds z u in
+          let o = starts s t z u in
+          (o ∙ ap (offsetAt s) p, ap length (w .1) ∙ w .0 .length-is ∙ ap (λ (x : ℕ). big 4 s (x + 4)) (sym o));
       missing =
           λ h.
           let p = no-position s t h in
-          (starts-nowhere s t (λ e. omega arith), ap length (blob-none s t (omega arith)));
+          (starts-nowhere s t (λ e. omega arith), ap length (l .none (omega arith)));
       is-blob = is-part s t;
     }
 
@@ -91,13 +92,13 @@ unfolding blobPart
 blob-shown s t =
     record {
       answer-is = refl;
-      passed = lies s t;
-      refused = λ h. (starts-nowhere s t (λ e. absurd (h e)), ap length (blob-refused s t h));
+      passed = λ z. lies s t (rows-exact 0 s .accepts .0 z);
+      refused = λ h. (starts-nowhere s t (λ e. absurd (h e)), ap length (lookups s t .refused (λ p. h (rows-exact 0 s .accepts .1 p))));
     }
 
 -- THE DIRECTORY
 
--- what is shown of a directory that is read, of the part d of the signature
+-- what is shown of a directory that is read, whose bytes are d
 pub record FieldsShown (s d : List ℕ) (r : DirectoryFields) : Type 0 where
   pub lies-at : Lies s 0 (r .start) (r .length)
   pub version-is : r .version ≡ big 4 d 8
@@ -140,23 +141,29 @@ pub record NoneShown (r : DirectoryFields) : Type 0 where
 -- what reading a signature shows: the answer of tests 1 to 18, and the one or the other
 pub record DirectoryShown (s : List ℕ) (r : DirectoryFields) : Type 0 where
   pub answer-is : refuse (r .number) (r .place) ≡ first (signatureRows 0 s) accepted
-  pub passed : r .number ≡ 0 → FieldsShown s (blob s 0) r
+  pub passed : r .number ≡ 0 → FieldsShown s (take (r .length) (drop (r .start) s)) r
   pub refused : (r .number ≡ 0 → ⊥) → NoneShown r
 
 limit-page : (d : List ℕ) → pageSize d ≡ 0 → P d ≡ codeLimit d
 unfolding P pageBytes pick holds
 limit-page d e = rw e
 
-power-page : (d : List ℕ) → WellFormed d → (pageSize d ≡ 0 → ⊥) → P d ≡ 2 ^ pageSize d
+power-page : (d : List ℕ) → DirectoryFormed d → (pageSize d ≡ 0 → ⊥) → P d ≡ 2 ^ pageSize d
 unfolding P pageBytes pick holds
-power-page d w n = ⊎-elim (λ e. absurd (n e)) (λ u. ⊎-elim (λ e. rw e) (λ e. rw e) u) (w .shift)
+power-page d w n = ⊎-elim (λ e. absurd (n e)) (λ u. ⊎-elim (λ e. rw e) (λ e. rw e) u) (w .page-size)
 
-fields-shown : (s : List ℕ) → readAnswer s .number ≡ 0 → FieldsShown s (blob s 0) (fieldsOf (readAnswer s) (blobStart s 0) (blob s 0))
+-- the directory is the blob that the lookup finds, and a part of the signature
+part-of : (s : List ℕ) → directory s ≡ take (length (directory s)) (drop (startOf s directoryType) s)
+unfolding blobOf blobAt
+part-of s = sym (take-part (blobLength s (position s directoryType)) (drop (startOf s directoryType) s))
+
+shown-of : (s : List ℕ) → SignatureFormed 0 s → Passes (rows 0 s) → FieldsShown s (directory s) (fieldsOf (readAnswer s) (startOf s directoryType) (directory s))
 unfolding version flags hashOffset identOffset nSpecialSlots nCodeSlots codeLimit hashSize hashType platform pageSize
-fields-shown s z =
-    let w = directory-read 0 s z .directory in
+shown-of s f p =
+    let w = f .formed in
+    let i = identifier (directory s) w in
     record {
-      lies-at = lies s 0 (superblob-passes 0 s z);
+      lies-at = rw (← starts s directoryType p (f .has-directory), ← lookups s directoryType .finds p (f .has-directory) .1) (lies s directoryType p);
       version-is = refl;
       flags-is = refl;
       hashOffset-is = refl;
@@ -168,12 +175,19 @@ fields-shown s z =
       hashType-is = refl;
       platform-is = refl;
       pageSize-is = refl;
-      whole-limit = limit-page (blob s 0);
-      power-of-two = power-page (blob s 0) w;
-      ident-inside = w .ident-inside;
-      ident-ends = w .ident-ends;
-      ident-before = w .ident-before;
+      whole-limit = limit-page (directory s);
+      power-of-two = power-page (directory s) w;
+      ident-inside = i .inside;
+      ident-ends = i .ends;
+      ident-before = i .not-before;
     }
+
+fields-shown : (s : List ℕ) → readAnswer s .number ≡ 0
+    → FieldsShown s (take (length (directory s)) (drop (startOf s directoryType) s)) (fieldsOf (readAnswer s) (startOf s directoryType) (directory s))
+fields-shown s z =
+    let f = signature-exactly 0 s .0 (signatureRows-exact 0 s .accepts .0 z) in
+    subst (λ (d : List ℕ). FieldsShown s d (fieldsOf (readAnswer s) (startOf s directoryType) (directory s))) (part-of s)
+    (shown-of s f (formed-exactly 0 s .1 (f .superblob, f .short)))
 
 none-shown : (s : List ℕ) → NoneShown (noFields (readAnswer s))
 none-shown s =
@@ -199,7 +213,7 @@ pub directory-shown : (s : List ℕ) → DirectoryShown s (directoryFields s)
 unfolding directoryFields
 directory-shown s = by-test (readable s) refl
   where
-    by-test : (b : Bool) → b ≡ readable s → DirectoryShown s (cond b (fieldsOf (readAnswer s) (blobStart s 0) (blob s 0)) (noFields (readAnswer s)))
+    by-test : (b : Bool) → b ≡ readable s → DirectoryShown s (cond b (fieldsOf (readAnswer s) (startOf s directoryType) (directory s)) (noFields (readAnswer s)))
     by-test true e =
         record { answer-is = refl; passed = fields-shown s; refused = λ n. absurd (n (said true (readAnswer s .number ≡? 0) e)) }
     by-test false e =
@@ -210,7 +224,7 @@ directory-shown s = by-test (readable s) refl
 -- what is shown of it: the answer of tests 1 to 18, and the first 20 bytes of the digest of the whole blob, or zeros
 pub record HashShown (s : List ℕ) (r : DirectoryHash) : Type 0 where
   pub answer-is : refuse (r .number) (r .place) ≡ first (signatureRows 0 s) accepted
-  pub passed : r .number ≡ 0 → r .hash ≡ take 20 (digest sha256 (blob s 0))
+  pub passed : r .number ≡ 0 → r .hash ≡ take 20 (digest sha256 (directory s))
   pub refused : (r .number ≡ 0 → ⊥) → r .hash ≡ replicate 20 0
 
 pub hash-shown : (s : List ℕ) → HashShown s (directoryHash s)

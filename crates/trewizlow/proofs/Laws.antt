@@ -12,7 +12,10 @@ use Rattle.refusals.proofs.Conditions.{says}
 use Rattle.digest.specs.Hash.{digest}
 use Rattle.digest.specs.Sha256.{sha256}
 use Rattle.superblob.specs.declared.Span.{Span}
-use Rattle.superblob.specs.Rows.{Found, blobStart, blobEnd, blob}
+use Rattle.superblob.specs.Rows.{Found, startOf, blobStart, blobEnd, blob}
+use Rattle.layout.specs.CodeDirectory.{directoryType}
+use Rattle.layout.specs.TrustCache.{cdhashLength}
+use Rattle.directory.specs.Rows.{directory}
 use Rattle.trewizlow.specs.Interface.{readAnswer, readable, fieldsOf, noFields, directoryFields, hashWith, directoryHash}
 
 pub span-length : (s : List ℕ) (t : ℕ) (r : Span) → Found s t r → r .end - r .start ≡ length (blob s t)
@@ -30,18 +33,18 @@ module _ (s : List ℕ) (a : Answer) (e : a ≡ readAnswer s) where
   pub when-refused : {A : Type 0} (x y : A) → (a .number ≡ 0 → ⊥) → y ≡ cond (readable s) x y
   when-refused x y h = rw (← says false (readAnswer s .number ≡? 0) (λ z. h (ap (λ (b : Answer). b .number) e ∙ z)))
 
-  pub fields-read : a .number ≡ 0 → fieldsOf a (blobStart s 0) (blob s 0) ≡ directoryFields s
+  pub fields-read : a .number ≡ 0 → fieldsOf a (startOf s directoryType) (directory s) ≡ directoryFields s
   unfolding directoryFields
-  fields-read h = ap (λ (b : Answer). fieldsOf b (blobStart s 0) (blob s 0)) e ∙ when-read _ _ h
+  fields-read h = ap (λ (b : Answer). fieldsOf b (startOf s directoryType) (directory s)) e ∙ when-read _ _ h
 
   pub fields-refused : (a .number ≡ 0 → ⊥) → noFields a ≡ directoryFields s
   unfolding directoryFields
   fields-refused h = ap noFields e ∙ when-refused _ _ h
 
-  pub hash-read : a .number ≡ 0 → hashWith a (take 20 (digest sha256 (blob s 0))) ≡ directoryHash s
+  pub hash-read : a .number ≡ 0 → hashWith a (take cdhashLength (digest sha256 (directory s))) ≡ directoryHash s
   unfolding directoryHash
   hash-read h = ap₂ hashWith e (when-read _ _ h)
 
-  pub hash-refused : (a .number ≡ 0 → ⊥) → hashWith a (replicate 20 0) ≡ directoryHash s
+  pub hash-refused : (a .number ≡ 0 → ⊥) → hashWith a (replicate cdhashLength 0) ≡ directoryHash s
   unfolding directoryHash
   hash-refused h = ap₂ hashWith e (when-refused _ _ h)

@@ -8,10 +8,11 @@ use Rattle.digest.specs.Hash.{digest}
 use Rattle.digest.specs.Sha256.{sha256}
 use Rattle.refusals.specs.declared.Answer.{Answer}
 use Rattle.refusals.specs.Refusals.{_≡?_, holds, accepted, first}
-use Rattle.layout.specs.CodeDirectory.{version, flags, hashOffset, identOffset, nSpecialSlots, nCodeSlots, codeLimit, hashSize, hashType, platform, pageSize}
-use Rattle.superblob.specs.Rows.{rows, blobStart, blob}
+use Rattle.layout.specs.CodeDirectory.{directoryType, version, flags, hashOffset, identOffset, nSpecialSlots, nCodeSlots, codeLimit, hashSize, hashType, platform, pageSize}
+use Rattle.layout.specs.TrustCache.{cdhashLength}
+use Rattle.superblob.specs.Rows.{rows, startOf, blobStart, blob}
 use Rattle.directory.specs.Pages.{P}
-use Rattle.directory.specs.Rows.{identLength, signatureRows}
+use Rattle.directory.specs.Rows.{directory, identLength, signatureRows}
 use Rattle.trewizlow.specs.declared.BlobPart.{BlobPart}
 use Rattle.trewizlow.specs.declared.DirectoryFields.{DirectoryFields}
 use Rattle.trewizlow.specs.declared.DirectoryHash.{DirectoryHash}
@@ -85,7 +86,7 @@ noFields a =
 
 -- the fields of the signature's directory where tests 1 to 18 pass
 unfoldable pub directoryFields : List ℕ → DirectoryFields
-directoryFields s = cond (readable s) (fieldsOf (readAnswer s) (blobStart s 0) (blob s 0)) (noFields (readAnswer s))
+directoryFields s = cond (readable s) (fieldsOf (readAnswer s) (startOf s directoryType) (directory s)) (noFields (readAnswer s))
 
 -- THE DIRECTORY'S HASH
 
@@ -94,4 +95,4 @@ hashWith a h = record { number = a .number; place = a .place; hash = h }
 
 -- the digest cut to 20 bytes where tests 1 to 18 pass, else zeros
 unfoldable pub directoryHash : List ℕ → DirectoryHash
-directoryHash s = hashWith (readAnswer s) (cond (readable s) (take 20 (digest sha256 (blob s 0))) (replicate 20 0))
+directoryHash s = hashWith (readAnswer s) (cond (readable s) (take cdhashLength (digest sha256 (directory s))) (replicate cdhashLength 0))

@@ -4,7 +4,9 @@ use layout::directory::CodeDirectory;
 use refusals::Answer;
 use trustcache::Launch;
 ghost use mathlib.Core.Path.{_≡_};
-ghost use Rattle.superblob.specs.Rows.{blobStart, blob};
+ghost use Rattle.layout.specs.CodeDirectory.{directoryType};
+ghost use Rattle.superblob.specs.Rows.{startOf};
+ghost use Rattle.directory.specs.Rows.{directory};
 ghost use Rattle.admission.specs.Input.{lent};
 ghost use Rattle.admission.specs.Check.{Checked};
 ghost use Rattle.admission.specs.Recheck.{recheckOf, Rechecked};
@@ -135,13 +137,13 @@ fn no_fields(answer: Answer) -> DirectoryFields
 
 // The fields of a signature's directory, with the answer.
 fn fields(answer: Answer, signature: &[u8]) -> DirectoryFields
-    ensures { λ r. ⌜ r ≡ fieldsOf answer (blobStart (now (signature .entry)) 0) (blob (now (signature .entry)) 0) ⌝ }
+    ensures { λ r. ⌜ r ≡ fieldsOf answer (startOf (now (signature .entry)) directoryType) (directory (now (signature .entry))) ⌝ }
 {
-    let start = superblob::find_span(signature, CodeDirectory::TYPE).start;
-    let d = superblob::find(signature, CodeDirectory::TYPE);
-    let read = directory::read(d);
-    let page_size = read.page_size;
-    let ident_length = read.ident_length;
+    let start = superblob::start_of(signature, CodeDirectory::TYPE);
+    let d = superblob::blob_of(signature, CodeDirectory::TYPE);
+    let code_limit = directory::code_limit(d);
+    let page_size = directory::page_size(d);
+    let ident_length = directory::ident_length(d);
     let head = CodeDirectory::read(d);
     let version = head.version as u32;
     let flags = head.flags as u32;
@@ -153,7 +155,6 @@ fn fields(answer: Answer, signature: &[u8]) -> DirectoryFields
     let hash_type = head.hash_type as u8;
     let platform = head.platform as u8;
     let page_shift = head.page_shift as u8;
-    let code_limit = head.code_limit;
     DirectoryFields {
         number: answer.number,
         place: answer.place,
@@ -195,7 +196,7 @@ pub extern "C" fn trewizlow_cdhash(signature: &[u8]) -> DirectoryHash
             hash: [0; 20],
         };
     }
-    let hash = digest::cut(digest::digest(superblob::find(signature, CodeDirectory::TYPE)));
+    let hash = digest::cut(digest::digest(superblob::blob_of(signature, CodeDirectory::TYPE)));
     DirectoryHash {
         number: answer.number,
         place: answer.place,

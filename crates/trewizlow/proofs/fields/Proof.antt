@@ -1,4 +1,4 @@
--- Each field is the one that the constructor or the reader gives, of the part that the lookup hands back. Assumes nothing.
+-- Each field is the one that the constructor or its reader gives, of the directory that is found. Assumes nothing.
 use mathlib.Core.Path.{ap, _∙_}
 use lib.ListN.{length}
 use denote.Ref.{now}
@@ -7,17 +7,23 @@ use Rattle.trewizlow.specs.Interface.{fieldsOf}
 use Rattle.trewizlow.proofs.fields.Statement.{statement}
 use Rattle.trewizlow.proofs.fields.Tie as tie
 
-find-span-requires : tie.Need-find-span-requires
-find-span-requires c κs = search needs
+start-of-requires : tie.Need-start-of-requires
+start-of-requires c κs = search needs
 
-find-requires : tie.Need-find-requires
-find-requires c κs = search needs
+blob-of-requires : tie.Need-blob-of-requires
+blob-of-requires c κs = search needs
+
+code-limit-requires : tie.Need-code-limit-requires
+code-limit-requires c κs = search needs
+
+page-size-requires : tie.Need-page-size-requires
+page-size-requires c κs = search needs
+
+ident-length-requires : tie.Need-ident-length-requires
+ident-length-requires c κs = search needs
 
 read-requires : tie.Need-read-requires
 read-requires c κs = search needs
-
-read-requires-2 : tie.Need-read-requires-2
-read-requires-2 c κs = search needs
 
 cast-version : tie.Need-cast-version
 cast-version c = search needs
@@ -47,20 +53,19 @@ cast-platform : tie.Need-cast-platform
 cast-platform c = search needs
 
 cast-page-shift : tie.Need-cast-page-shift
-cast-page-shift c = record { fits = c .before .before .before .before .before .before .before .before .before .before .read2 .ensures .pageSize-below }
+cast-page-shift c = record { fits = c .before .before .before .before .before .before .before .before .before .before .read .ensures .pageSize-below }
 
 returns : tie.Need-returns
 returns c =
     let b = c .before .before .before .before .before .before .before .before .before .before in
-    let h = b .read2 .ensures in
-    let r = b .before .read .ensures in
-    let f = b .before .before .find in
-    let a = b .before .before .before .before .before .args .answer in
+    let h = b .read .ensures in
+    let f = b .before .before .before .before .blob-of in
+    let a = b .before .before .before .before .before .before .before .args .answer in
     (λ i.
     record {
       number = a .number;
       place = a .place;
-      start = b .before .before .before .find-span .ensures .start-is i;
+      start = b .before .before .before .before .before .start-of .ensures i;
       length = length (now (f .result));
       version = h .version-is i;
       flags = h .flags-is i;
@@ -72,9 +77,9 @@ returns c =
       «hash_type» = h .hashType-is i;
       platform = h .platform-is i;
       «page_shift» = h .pageSize-is i;
-      «code_limit» = h .codeLimit-is i;
-      «page_size» = r .P-is i;
-      «ident_length» = r .identLength-is i;
+      «code_limit» = b .before .before .before .code-limit .ensures .0 i;
+      «page_size» = b .before .before .page-size .ensures i;
+      «ident_length» = b .before .ident-length .ensures i;
     })
     ∙ ap (fieldsOf a _) (f .ensures)
 
@@ -82,10 +87,12 @@ pub fields-spec : {M : Type 1} → statement M
 fields-spec =
     tie.close
     (tie.spec
-    find-span-requires
-    find-requires
+    start-of-requires
+    blob-of-requires
+    code-limit-requires
+    page-size-requires
+    ident-length-requires
     read-requires
-    read-requires-2
     cast-version
     cast-flags
     cast-hash-offset

@@ -13,8 +13,8 @@ tested-requires c κs = search needs
 returns : tie.Need-returns
 returns c = hash-refused _ _ (c .before .before .tested .ensures) (omega arith)
 
-find-requires : tie.Need-find-requires
-find-requires c κs = search needs
+blob-of-requires : tie.Need-blob-of-requires
+blob-of-requires c κs = search needs
 
 digest-requires : tie.Need-digest-requires
 digest-requires c κs = search needs
@@ -24,10 +24,10 @@ cut-requires c κs = search needs
 
 returns-2 : tie.Need-returns-2
 returns-2 c =
-    ap (hashWith _) (c .cut .ensures ∙ rw (c .before .digest .ensures, c .before .before .find .ensures))
+    ap (hashWith _) (c .cut .ensures ∙ rw (c .before .digest .ensures, c .before .before .blob-of .ensures))
     ∙ hash-read _ _ (c .before .before .before .before .before .tested .ensures) (omega arith)
 
 pub trewizlow-cdhash-spec : {M : Type 1} → statement M
 trewizlow-cdhash-spec =
     tie.close
-    (tie.spec tested-requires returns find-requires digest-requires cut-requires returns-2)
+    (tie.spec tested-requires returns blob-of-requires digest-requires cut-requires returns-2)
