@@ -9,9 +9,9 @@ use Rattle.refusals.specs.declared.Answer.{Answer}
 use Rattle.refusals.specs.Refusals.{accepted, first}
 use Rattle.refusals.proofs.Conditions.{pick-yes, pick-no}
 use Rattle.layout.specs.CodeDirectory.{nCodeSlots}
-use Rattle.superblob.specs.Rows.{blob}
-use Rattle.directory.specs.Rows.{signatureRows}
-use Rattle.directory.specs.Formed.{directory-read}
+use Rattle.directory.specs.Rows.{mostPages, directory, signatureRows}
+use Rattle.directory.proofs.Numbers.{signatureRows-exact}
+use Rattle.directory.proofs.Formed.{signature-exactly}
 use Rattle.admission.specs.declared.Verdict.{Verdict}
 use Rattle.admission.specs.Check.{CheckOutcome, checkOf, checkAnswer, verdictOf, Checked}
 use Rattle.admit_run.specs.Small.{marksWanted, files, smallVerdict}
@@ -21,11 +21,11 @@ module _ (s : List ℕ) (a : Answer) (e : a ≡ first (signatureRows 0 s) accept
   unfolding marksWanted
   wanted-none h = pick-no _ _ _ _ (λ z. h (ap (λ (x : Answer). x .number) e ∙ z)) refl
 
-  pub wanted-some : (n : ℕ) → n ≡ nCodeSlots (blob s 0) → a .number ≡ 0 → (n ≡ marksWanted s) × (n ≤ 65536)
+  pub wanted-some : (n : ℕ) → n ≡ nCodeSlots (directory s) → a .number ≡ 0 → (n ≡ marksWanted s) × (n ≤ mostPages)
   unfolding marksWanted
   wanted-some n q h =
       let z : first (signatureRows 0 s) accepted .number ≡ 0 = sym (ap (λ (x : Answer). x .number) e) ∙ h in
-      let w = directory-read 0 s z .directory .few-code-slots in
+      let w = signature-exactly 0 s .0 (signatureRows-exact 0 s .accepts .0 z) .formed .few-pages in
       (pick-yes _ _ _ _ z q, omega arith)
 
 pub verdict-is : (s image cache marks : List ℕ) (n : ℕ) (v : Verdict) (after : List ℕ) → n ≡ marksWanted s → n ≤ length marks

@@ -5,8 +5,7 @@ use mathlib.Core.Bool.{false}
 use mathlib.Core.List.{List, []}
 use Rattle.refusals.specs.Refusals.{_≡?_, pick, accepted, first}
 use Rattle.layout.specs.CodeDirectory.{nCodeSlots}
-use Rattle.superblob.specs.Rows.{blob}
-use Rattle.directory.specs.Rows.{signatureRows}
+use Rattle.directory.specs.Rows.{directory, signatureRows}
 use Rattle.trustcache.specs.declared.launch.Launch.{Launch}
 use Rattle.admission.specs.declared.Verdict.{Verdict}
 use Rattle.admission.specs.Input.{Lent, lent}
@@ -24,7 +23,7 @@ noFacts =
 
 -- how many marks are lent: nCodeSlots where tests 1 to 18 pass
 unfoldable pub marksWanted : List ℕ → ℕ
-marksWanted s = pick (first (signatureRows 0 s) accepted .number ≡? 0) (nCodeSlots (blob s 0)) 0
+marksWanted s = pick (first (signatureRows 0 s) accepted .number ≡? 0) (nCodeSlots (directory s)) 0
 
 abbrev pub files : List ℕ → List ℕ → List ℕ → Lent
 files s image cache = lent s image cache false [] false [] noFacts

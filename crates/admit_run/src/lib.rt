@@ -6,12 +6,13 @@ use trustcache::Launch;
 ghost use mathlib.Core.Path.{_≡_};
 ghost use Prim.Native.Nat.{_≤_};
 ghost use lib.ListN.{length};
+ghost use Rattle.directory.specs.Rows.{mostPages};
 ghost use Rattle.io.specs.Counts.{Counts};
 ghost use Rattle.admit_run.specs.Small.{marksWanted, smallVerdict};
 
 // The whole check of three files. There is room for the marks of every directory that passes.
 fn admit(signature: &[u8], image: &[u8], cache: &[u8], marks: &mut [u8]) -> Verdict
-    requires { ⌜ 65536 ≤ length (now marks) ⌝ }
+    requires { ⌜ mostPages ≤ length (now marks) ⌝ }
     ensures { λ r. ⌜ r ≡ smallVerdict (now (signature .entry)) (now (image .entry)) (now (cache .entry)) ⌝ }
 {
     let n = marks_wanted(signature);
@@ -37,12 +38,12 @@ fn admit(signature: &[u8], image: &[u8], cache: &[u8], marks: &mut [u8]) -> Verd
 
 // How many marks test 20 wants; 0 where a test before it refuses.
 fn marks_wanted(signature: &[u8]) -> usize
-    ensures { λ r. ⌜ (r ≡ marksWanted (now (signature .entry))) × (r ≤ 65536) ⌝ }
+    ensures { λ r. ⌜ (r ≡ marksWanted (now (signature .entry))) × (r ≤ mostPages) ⌝ }
 {
     if directory::tested(signature, 0).number != 0 {
         return 0;
     }
-    directory::read(superblob::find(signature, CodeDirectory::TYPE)).code_slots
+    CodeDirectory::read(superblob::blob_of(signature, CodeDirectory::TYPE)).code_slots
 }
 
 // A file's bytes in a buffer: how many they are, and whether it could be opened.
@@ -94,7 +95,7 @@ fn print(verdict: Verdict) {
 
 // Reads the files into buffers of one byte more than each may have, in their order, and prints.
 fn run_files(signature: &mut [u8], image: &mut [u8], cache: &mut [u8], marks: &mut [u8])
-    requires { ⌜ 65536 ≤ length (now marks) ⌝ }
+    requires { ⌜ mostPages ≤ length (now marks) ⌝ }
 {
     let first = load(1, signature);
     let a = first.length;

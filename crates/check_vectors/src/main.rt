@@ -1,6 +1,6 @@
 // Reads the corpus of calls and prints, for each, the answer and the marks that it leaves: whole checks, rechecks, and chains, in which a
 // recheck gets the marks that the call before left. Corpus and expected output are made by the reference: tools/make-corpora. A case is
-// eight items: the call (its kind, start and length), the signature, the image or the lent pages, the cache, the two side files, what is
+// eight items: the call (which it is, its start and its length), the signature, the image or the lent pages, the cache, the two side files, what is
 // there with the launch facts, and the marks.
 ghost use Prim.Native.Nat.{_≤_};
 ghost use lib.ListN.{length};

@@ -1,9 +1,10 @@
 // Reads the corpus of signatures and prints, for each, the answer of tests 1 to 18, where the blobs of several types lie, and the
 // directory's fields where it is accepted. Corpus and expected output are made by the reference: tools/make-corpora.
+use layout::directory::CodeDirectory;
 ghost use lib.ListN.{length};
 
 // The types that are looked up in each signature.
-const KINDS: [u32; 11] = [0, 1, 2, 5, 7, 8, 11, 4096, 4100, 65536, 4294967295];
+const TYPES: [u32; 11] = [0, 1, 2, 5, 7, 8, 11, 4096, 4100, 65536, 4294967295];
 
 // Room for a signature of one byte more than test 1 allows.
 fn room() -> [u8; 4194305] {
@@ -11,20 +12,20 @@ fn room() -> [u8; 4194305] {
 }
 
 // ` TYPE:START+LENGTH`, where a blob of the type is found. The part that the lookup hands back has that length.
-fn print_found(sig: &[u8], kind: u32) {
-    let span = superblob::find_span(sig, kind);
-    let found = superblob::find(sig, kind);
+fn print_found(sig: &[u8], slot_type: u32) {
+    let span = superblob::find_span(sig, slot_type);
+    let found = superblob::find(sig, slot_type);
     if found.len() == 0 {
         return;
     }
-    corpus::print(b" ", kind as usize);
+    corpus::print(b" ", slot_type as usize);
     corpus::print(b":", span.start);
     corpus::print(b"+", found.len());
 }
 
 fn print_fields(sig: &[u8]) {
     let d = superblob::find(sig, 0);
-    let read = directory::read(d);
+    let read = CodeDirectory::read(d);
     corpus::print(b" | ", superblob::find_span(sig, 0).start);
     corpus::print(b" ", d.len());
     corpus::print(b" ", read.version);
@@ -37,9 +38,9 @@ fn print_fields(sig: &[u8]) {
     corpus::print(b" ", read.hash_type);
     corpus::print(b" ", read.platform);
     corpus::print(b" ", read.page_shift);
-    corpus::print(b" ", read.code_limit);
-    corpus::print(b" ", read.page_size);
-    corpus::print(b" ", read.ident_length);
+    corpus::print(b" ", directory::code_limit(d));
+    corpus::print(b" ", directory::page_size(d));
+    corpus::print(b" ", directory::ident_length(d));
 }
 
 fn print_case(sig: &[u8]) {
@@ -47,7 +48,7 @@ fn print_case(sig: &[u8]) {
     corpus::print_answer(answer.number, answer.place);
     let mut i: usize = 0;
     while i < 11 {
-        print_found(sig, KINDS[i]);
+        print_found(sig, TYPES[i]);
         i += 1;
     }
     if answer.number == 0 {

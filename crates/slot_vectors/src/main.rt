@@ -1,6 +1,7 @@
 // Reads the corpus of special slots and prints, for each case, the answer of tests 1 to 18 and then 21 to 23. Corpus and expected output
 // are made by the reference: tools/make-corpora. A case is three items: the signature, and for each side file a byte (1 where it is
 // there) and its bytes.
+use layout::directory::CodeDirectory;
 ghost use lib.ListN.{length};
 
 fn print_line(number: u32, place: usize) {
@@ -30,6 +31,7 @@ fn print_case(sig: &[u8], info: &[u8], resources: &[u8]) {
     }
     let answer = slots::tested(
         sig,
+        superblob::blob_of(sig, CodeDirectory::TYPE),
         flag(info),
         bytes(info),
         flag(resources),

@@ -13,15 +13,15 @@ tested-requires c κs = search needs
 returns : tie.Need-returns
 returns c = (wanted-none _ _ (c .before .before .tested .ensures) (omega arith), omega arith)
 
-find-requires : tie.Need-find-requires
-find-requires c κs = search needs
+blob-of-requires : tie.Need-blob-of-requires
+blob-of-requires c κs = search needs
 
 read-requires : tie.Need-read-requires
 read-requires c κs = search needs
 
 returns-2 : tie.Need-returns-2
-returns-2 c = wanted-some _ _ (c .before .before .before .before .tested .ensures) _ (c .read .ensures .nCodeSlots-is ∙ ap nCodeSlots (c .before .find .ensures)) (omega arith)
+returns-2 c = wanted-some _ _ (c .before .before .before .before .tested .ensures) _ (c .read .ensures .nCodeSlots-is ∙ ap nCodeSlots (c .before .blob-of .ensures)) (omega arith)
 
 pub marks-wanted-spec : {M : Type 1} → statement M
 marks-wanted-spec =
-    tie.close (tie.spec tested-requires returns find-requires read-requires returns-2)
+    tie.close (tie.spec tested-requires returns blob-of-requires read-requires returns-2)
