@@ -49,24 +49,24 @@ part-same n o l m e h =
 -- those of the SuperBlob's head
 head-read : (s : List ℕ) (j : ℕ) → j < superHead → Free s j → ⊥
 unfolding indexEnd
-head-read s j h (padding a b e) = omega arith
-head-read s j h (unread a b e) = omega arith
+head-read s j h (padding a b) = omega arith
+head-read s j h (unread a e) = omega arith
 
 -- those of an index inside the SuperBlob
 index-read : (s : List ℕ) (j : ℕ) → indexEnd s ≤ superLength s → j < indexEnd s → Free s j → ⊥
-index-read s j u h (padding a b e) = omega arith
-index-read s j u h (unread a b e) = omega arith
+index-read s j u h (padding a b) = omega arith
+index-read s j u h (unread a e) = omega arith
 
 -- those of a blob's head that ends inside the SuperBlob
 blob-head-read : (s : List ℕ) (i k : ℕ) → i < count s → offsetAt s i + blobHead ≤ superLength s → k < blobHead → Free s (offsetAt s i + k) → ⊥
-blob-head-read s i k h u l (padding a b e) = omega arith
-blob-head-read s i k h u l (unread a b e) = e i h .0 (omega arith, omega arith)
+blob-head-read s i k h u l (padding a b) = omega arith
+blob-head-read s i k h u l (unread a e) = e i h .0 (omega arith, omega arith)
 
 -- those of a blob that is read and ends inside the SuperBlob
 blob-read : (s : List ℕ) (i k : ℕ) → i < count s → (Opaque (typeAt s i) → ⊥) → offsetAt s i + blobLength s i ≤ superLength s
     → k < blobLength s i → Free s (offsetAt s i + k) → ⊥
-blob-read s i k h o u l (padding a b e) = omega arith
-blob-read s i k h o u l (unread a b e) = o (e i h .1 (omega arith, omega arith))
+blob-read s i k h o u l (padding a b) = omega arith
+blob-read s i k h o u l (unread a e) = o (e i h .1 (omega arith, omega arith))
 
 module _ (s t : List ℕ) (same : SameRead s t) where
   -- a number in bytes that are not free is the same

@@ -9,7 +9,6 @@ use mathlib.Core.Path.{_≡_}
 use lib.ListN.{length, getD}
 use Rattle.refusals.specs.Refusals.{Passes}
 use Rattle.layout.specs.SuperBlob.{superHead, blobHead, superLength, count, indexEnd, typeAt, offsetAt, blobLength}
-use Rattle.superblob.specs.Rows.{headRows}
 use Rattle.directory.specs.Rows.{signatureRows}
 use Rattle.admission.specs.Input.{Lent, longest, limitOf}
 use Rattle.admission.specs.Check.{checkOf}
@@ -28,10 +27,10 @@ InBlob s i j = (offsetAt s i ≤ j) × (j < offsetAt s i + blobLength s i)
 
 -- byte j of the signature is free
 pub data Free (s : List ℕ) (j : ℕ) : Type 0 where
-  -- it is at or past a stated length that lies within the lent bytes and has room for the head
-  padding : superHead ≤ superLength s → superLength s ≤ length s → superLength s ≤ j → Free s j
-  -- tests 1 to 4 pass, and it is past the index, in no blob's head, and in no blob that is read behind its head
-  unread : Passes (headRows 0 s) → indexEnd s ≤ j → ((i : ℕ) → i < count s → (InHead s i j → ⊥) × (InBlob s i j → Opaque (typeAt s i))) → Free s j
+  -- it is past the SuperBlob's head, and at or past the stated length
+  padding : superHead ≤ j → superLength s ≤ j → Free s j
+  -- it is past the index, in no blob's head, and in no blob that is read behind its head
+  unread : indexEnd s ≤ j → ((i : ℕ) → i < count s → (InHead s i j → ⊥) × (InBlob s i j → Opaque (typeAt s i))) → Free s j
 
 -- two signatures that differ in free bytes alone
 pub record SameRead (s t : List ℕ) : Type 0 where
