@@ -14,3 +14,5 @@ pub mod Sides
 pub mod PageRules
 pub mod Accepted
 pub mod Demand2
+pub mod SameRead
+pub mod Ignored
