@@ -66,9 +66,5 @@ pub fn hash_of<'a>(c: &'a [u8], i: usize) -> &'a [u8]
     if size / CacheEntry::SIZE < i {
         return part(c, size, CacheEntry::HASH);
     }
-    part(
-        c,
-        CacheHead::HEAD + CacheEntry::SIZE * i,
-        CacheEntry::HASH,
-    )
+    part(c, CacheHead::HEAD + CacheEntry::SIZE * i, CacheEntry::HASH)
 }

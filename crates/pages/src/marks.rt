@@ -26,14 +26,7 @@ fn mark_page(p: usize, limit: usize, slots: &[u8], from: usize, n: usize, bytes:
 
 // Hashes the pages from `from` on, one for each mark, and writes their marks. The bytes begin where page `from` begins: the image
 // itself for all pages, or what is lent for the pages that a range meets.
-pub fn mark_pages(
-    p: usize,
-    limit: usize,
-    slots: &[u8],
-    from: usize,
-    bytes: &[u8],
-    marks: &mut [u8],
-)
+pub fn mark_pages(p: usize, limit: usize, slots: &[u8], from: usize, bytes: &[u8], marks: &mut [u8])
     requires { ⌜ PagesHere p limit (now slots) from (length (now marks)) (now bytes) ⌝ }
     ensures { λ r. ⌜ now (marks .exit) ≡ marksFrom p limit (now (slots .entry)) from (length (now (marks .entry))) (now (bytes .entry)) ⌝ }
 {

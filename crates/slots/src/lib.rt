@@ -76,12 +76,7 @@ fn fault_at(
         1 => fault_of(d, slot, info_there, info),
         3 => fault_of(d, slot, resources_there, resources),
         4 | 6 => fault_of(d, slot, false, superblob::blob_of(sig, k)),
-        _ => fault_of(
-            d,
-            slot,
-            superblob::has(sig, k),
-            superblob::blob_of(sig, k),
-        ),
+        _ => fault_of(d, slot, superblob::has(sig, k), superblob::blob_of(sig, k)),
     }
 }
 
