@@ -3,12 +3,12 @@
 use Prim.Native.Nat.{ℕ, _≤_}
 use mathlib.Core.List.{List, _++_}
 use mathlib.Core.Logic.{_↔_}
-use mathlib.Core.Path.{_≡_, refl, sym, subst}
+use mathlib.Core.Path.{_≡_, sym, subst}
 use lib.ListN.{length}
 use Rattle.refusals.specs.Refusals.{Row, Passes}
 use Rattle.refusals.proofs.Joined.{append-passes, passes-append}
 use Rattle.layout.specs.CodeDirectory.{directoryType, nCodeSlots, codeLimit}
-use Rattle.superblob.specs.Rows.{mostSide, position, blobAt, blobOf}
+use Rattle.superblob.specs.Rows.{mostSide, position, blobOf}
 use Rattle.superblob.proofs.Lookup.{found-blob, has-position, blob-at}
 use Rattle.directory.specs.Rows.{mostSpecialSlots, directory, signatureRows}
 use Rattle.directory.specs.Formed.{DirectoryFormed, SignatureFormed}

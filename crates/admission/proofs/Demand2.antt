@@ -12,6 +12,7 @@ use Rattle.refusals.specs.declared.Answer.{Answer}
 use Rattle.refusals.specs.Refusals.{_≡?_, holds, Row, refuse, accepted, first, Passes}
 use Rattle.refusals.proofs.Conditions.{says}
 use Rattle.refusals.proofs.Exact.{Unused, Distinct, passes, passed, exact}
+use Rattle.refusals.proofs.Plain.{over-plainly, among-plainly}
 use Rattle.refusals.proofs.Joined.{first-append}
 use Rattle.superblob.specs.Rows.{headRows, indexRows, rows}
 use Rattle.directory.specs.Rows.{fieldRows, slotRows, blobRows, directoryRows, signatureRows}
@@ -21,7 +22,7 @@ use Rattle.trustcache.specs.Launch.{launchRows}
 use Rattle.trustcache.specs.Table.{cacheRows}
 use Rattle.pages.specs.Pages.{pageCount, pageOf, rangeRows}
 use Rattle.pages.specs.Marks.{agrees, markOf, markRows, badRows}
-use Rattle.pages.proofs.Marking.{marks-at, marks-length}
+use Rattle.pages.proofs.Marking.{agrees-equal, marks-at, marks-length}
 use Rattle.admission.specs.Input.{Lent, beside, pageBytesOf, limitOf, slotsOf, marksOf}
 use Rattle.admission.specs.Check.{imageRows, laterRows, countRows, checkRows, entryFor, checkTable, checkAnswer, verdictOf, CheckOutcome, checkOf}
 use Rattle.admission.specs.Recheck.{Call, recheckOf, inputRows, callRows, remarked, callAnswer, callMarks, CallOutcome, callOf}
@@ -129,6 +130,9 @@ recheck2 s c marks =
 pub demand2 : Demand2
 demand2 =
     record {
+      over-positions = over-plainly;
+      several-numbers = among-plainly;
+      agrees-exactly = agrees-equal;
       check = λ x marks v after e. subst (λ (o : CheckOutcome). Check2 x marks (o .verdict) (o .marks)) (sym e) (check2 x marks);
       recheck = λ s c marks a after e. subst (λ (o : CallOutcome). Recheck2 s c marks (o .answer) (o .marks)) (sym e) (recheck2 s c marks);
     }

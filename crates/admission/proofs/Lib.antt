@@ -16,3 +16,4 @@ pub mod Accepted
 pub mod Demand2
 pub mod SameRead
 pub mod Ignored
+pub mod Measured

@@ -10,13 +10,12 @@ use native.Mathlib.Omega.{arith}
 use lib.Dec.{ltb, leb}
 use lib.ListN.{length, getD, take, drop}
 use borrow.Author.Tests.{ltb-true, ltb-false, leb-true, leb-false, lt-ltb, le-leb}
-use Rattle.refusals.specs.declared.Answer.{Answer}
 use Rattle.refusals.specs.Refusals.{accepted, first, Passes}
 use Rattle.refusals.proofs.Exact.{passes-zero}
 use Rattle.directory.specs.Rows.{directory}
 use Rattle.directory.proofs.Formed.{signature-exactly}
 use Rattle.directory.proofs.Pages.{fits}
-use Rattle.pages.specs.Pages.{Fit, part, metFirst, metEnd, splice}
+use Rattle.pages.specs.Pages.{part, metFirst, metEnd, splice}
 use Rattle.pages.specs.Marks as Marks
 use Rattle.pages.specs.Marks.{agrees, markOf, markIn, marksFrom, RangeHere}
 use Rattle.pages.proofs.Lists.{part-at, splice-before, splice-inside, splice-after, tab-length, tab-at}

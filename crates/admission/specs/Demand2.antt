@@ -7,9 +7,9 @@ use mathlib.Core.Logic.{_⊎_, _↔_}
 use mathlib.Core.Path.{_≡_}
 use lib.ListN.{length, getD}
 use Rattle.refusals.specs.declared.Answer.{Answer}
-use Rattle.refusals.specs.Refusals.{Decides, Passes, refuse}
+use Rattle.refusals.specs.Refusals.{Decides, Passes, refuse, OverPlainly, AmongPlainly}
 use Rattle.pages.specs.Pages.{pageCount, pageOf}
-use Rattle.pages.specs.Marks.{badRows, agrees}
+use Rattle.pages.specs.Marks.{badRows, agrees, AgreesExactly}
 use Rattle.admission.specs.declared.Verdict.{Verdict}
 use Rattle.admission.specs.Input.{Lent, pageBytesOf, limitOf, slotsOf}
 use Rattle.admission.specs.Check.{Checked, checkTable, verdictOf}
@@ -46,5 +46,10 @@ pub record Recheck2 (s : List ℕ) (c : Call) (marks : List ℕ) (a : Answer) (a
       → getD after i 0 ≡ cond (agrees (slotsOf s) i (lentPage s c i)) 0 1
 
 pub record Demand2 : Type 0 where
+  -- a test over positions holds with the lowest position at which its condition holds, and one with several numbers with the lowest fault
+  pub over-positions : OverPlainly
+  pub several-numbers : AmongPlainly
+  -- a page agrees with its slot exactly when the slot holds its digest
+  pub agrees-exactly : AgreesExactly
   pub check : (x : Lent) (marks : List ℕ) (v : Verdict) (after : List ℕ) → Checked x marks v after → Check2 x marks v after
   pub recheck : (s : List ℕ) (c : Call) (marks : List ℕ) (a : Answer) (after : List ℕ) → Rechecked s c marks a after → Recheck2 s c marks a after

@@ -2,14 +2,10 @@
 -- cite.
 use Prim.Native.Nat.{ℕ}
 use mathlib.Core.List.{List, [], _∷_}
-use mathlib.Core.Path.{_≡_, refl}
-use Rattle.endian.specs.Numbers.{big}
-use Rattle.refusals.specs.Refusals.{pick, holds, lowest, accepted, first}
-use Rattle.refusals.specs.Ranges.{lookup}
-use Rattle.layout.specs.CodeDirectory.{version, hashOffset, identOffset, nSpecialSlots, nCodeSlots, codeLimit, hashSize, hashType, pageSize, codeLimit64}
-use Rattle.pages.specs.Pages.{pageBytes, pageCount, metFirst, metEnd, wanted, rangeRows}
-use Rattle.directory.specs.Pages.{P, pages}
-use Rattle.directory.specs.Rows.{headSizes, headSize, headOf, specialOutside, codeOutside, zeroAt, identLength, fieldRows, slotRows, blobRows}
+use mathlib.Core.Path.{_≡_}
+use Rattle.refusals.specs.Refusals.{accepted, first}
+use Rattle.pages.specs.Pages.{pageBytes, pageCount, wanted, rangeRows}
+use Rattle.directory.specs.Rows.{headSize, blobRows}
 
 -- a number that is computed, and the one that is stated
 infix 90 _gives_
@@ -59,8 +55,3 @@ measured =
 
 abbrev pub Measured : Type 0
 Measured = Hold measured
-
-pub measured-table : Measured
-unfolding big pick holds lowest first lookup version hashOffset identOffset nSpecialSlots nCodeSlots codeLimit hashSize hashType pageSize codeLimit64 pageBytes pageCount metFirst metEnd rangeRows P pages headSizes headSize headOf specialOutside codeOutside zeroAt identLength fieldRows slotRows blobRows
-measured-table =
-    (refl, (refl, (refl, (refl, (refl, (refl, (refl, (refl, (refl, (refl, (refl, (refl, (refl, (refl, (refl, (refl, (refl, (refl, (refl, (refl, tt))))))))))))))))))))

@@ -7,7 +7,6 @@ ghost use mathlib.Core.Path.{_≡_};
 ghost use Prim.Native.Nat.{_≤_};
 ghost use lib.ListN.{length};
 ghost use Rattle.directory.specs.Rows.{mostPages};
-ghost use Rattle.io.specs.Counts.{Counts};
 ghost use Rattle.admit_run.specs.Small.{marksWanted, smallVerdict};
 
 // The whole check of three files. There is room for the marks of every directory that passes.

@@ -1,8 +1,6 @@
 // Reads the corpus of trust caches and prints, for each case, the answer of tests 24 to 30. Corpus and expected output are made by the
 // reference: tools/make-corpora. A case is three items: the directory's hash cut to 20 bytes, the cache, and the five launch facts, a
 // byte each. Four more lines are of caches of 65,536 and 65,537 entries in order, which are made here.
-ghost use lib.ListN.{length};
-ghost use mathlib.Core.Path.{_≡_};
 use trustcache::Launch;
 
 // Room for a cache of one entry more than test 24 allows.

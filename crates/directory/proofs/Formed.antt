@@ -16,7 +16,7 @@ use Rattle.layout.specs.CodeDirectory.{identOffset, pageSize}
 use Rattle.superblob.specs.Rows.{rows}
 use Rattle.superblob.proofs.Formed.{formed-exactly}
 use Rattle.directory.specs.Rows.{directory, zeroAt, identLength, fieldRows, slotRows, blobRows, directoryRows, signatureRows}
-use Rattle.directory.specs.Formed.{DirectoryFormed, DirectoryExactly, SignatureFormed, SignatureExactly}
+use Rattle.directory.specs.Formed.{DirectoryFormed, DirectoryExactly, SignatureExactly}
 use Rattle.directory.proofs.Versions.{version-known}
 use Rattle.directory.proofs.Slots.{slots-inside}
 

@@ -11,7 +11,7 @@ use lib.Seq.{length-take-le, take-nil, take-take, drop-drop}
 use borrow.Author.Tests.{ltb-true, ltb-false}
 use Rattle.refusals.specs.Refusals.{_or_, Says}
 use Rattle.layout.specs.CodeDirectory.{slotWidth, hashOffset, nSpecialSlots, nCodeSlots}
-use Rattle.directory.specs.Rows.{headOf, codeSlot, codeSlots, specialOutside, codeOutside}
+use Rattle.directory.specs.Rows.{codeSlot, codeSlots, specialOutside, codeOutside}
 use Rattle.directory.specs.Formed.{SlotsInside}
 
 -- test 17 passes exactly then

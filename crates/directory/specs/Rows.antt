@@ -9,7 +9,7 @@ use Rattle.refusals.specs.Refusals.{_<?_, _≤?_, _≡?_, _≢?_, _and_, _or_, 
 use Rattle.layout.specs.SuperBlob.{count}
 use Rattle.layout.specs.CodeDirectory.{directoryType, sha256Type, slotWidth, versionEnd, version, hashOffset, identOffset, nSpecialSlots, nCodeSlots, hashSize, hashType, pageSize, codeLimit64}
 use Rattle.superblob.specs.Rows.{rows, position, blobOf}
-use Rattle.directory.specs.Pages.{P, pages}
+use Rattle.directory.specs.Pages.{pages}
 
 -- LIMITS
 

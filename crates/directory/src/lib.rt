@@ -6,7 +6,7 @@
 ghost use mathlib.Core.Path.{_≡_};
 ghost use Prim.Native.Nat.{_-_, _<_};
 ghost use lib.ListN.{length};
-ghost use Rattle.refusals.specs.Refusals.{holds, first, accepted, refuse};
+ghost use Rattle.refusals.specs.Refusals.{holds, first, accepted};
 ghost use Rattle.layout.specs.CodeDirectory.{identOffset, codeLimit};
 ghost use Rattle.directory.specs.Pages.{P, pages};
 ghost use Rattle.directory.specs.Rows.{headSize, headOf, specialOutside, codeOutside, identLength, fieldRows, slotRows, blobRows, signatureRows, specialSlot, codeSlots};

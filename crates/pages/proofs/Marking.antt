@@ -16,15 +16,14 @@ use Rattle.digest.specs.Sha256.{sha256}
 use Rattle.digest.specs.Same.{same}
 use Rattle.digest.proofs.Equality.{same-equal, equal-same}
 use Rattle.layout.specs.CodeDirectory.{slotWidth}
-use Rattle.pages.specs.Pages.{Fit, pageCount, pageEnd, part, pageOf, metFirst, metEnd, wanted}
-use Rattle.pages.specs.Marks.{slotAt, agrees, markOf, marksOf, markIn, marksFrom, remarked, neither, differs, markRows, badRows, judged, PageHere, PagesHere, RangeHere}
+use Rattle.pages.specs.Pages.{pageCount, pageEnd, part, pageOf, metFirst, metEnd}
+use Rattle.pages.specs.Marks.{slotAt, agrees, AgreesExactly, markOf, marksOf, markIn, marksFrom, remarked, neither, differs, markRows, badRows, judged, PageHere, PagesHere, RangeHere}
 use Rattle.pages.proofs.Pages.{met-le, met-count}
 use Rattle.pages.proofs.Lists.{part-below, tab-length, tab-at, tab-same}
 
 -- WHAT A MARK SAYS
 
--- a page agrees exactly when its slot holds the digest of its bytes
-pub agrees-equal : (slots : List ℕ) (i : ℕ) (bytes : List ℕ) → (agrees slots i bytes ≡ true) ↔ (digest sha256 bytes ≡ slotAt slots i)
+pub agrees-equal : AgreesExactly
 unfolding agrees
 agrees-equal slots i bytes = (λ e. same-equal _ _ e, λ e. equal-same _ _ e)
 

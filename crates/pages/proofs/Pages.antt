@@ -1,7 +1,7 @@
 -- Laws of pages and of the pages that a range meets.
 use Prim.Native.Nat.{ℕ, zero, suc, _+_, _-_, _*_, _/_, _≤_, _<_, _^_, max, zero-le}
 use mathlib.Core.Path.{_≡_, refl, sym, ap, _∙_}
-use mathlib.Core.Logic.{_⊎_, inl, inr, _↔_}
+use mathlib.Core.Logic.{inl, inr, _↔_}
 use mathlib.Core.Bool.{Bool, true, false}
 use native.Mathlib.Nat.{mul-le-mul-left, mul-comm, mul-zero, suc-mul, div-zero, le-div-iff-mul-le, div-lt-iff-lt-mul, lt-mul-div-succ, mul-div-le, min-le-left, min-le-right, le-min, le-trans, div-eq-of-lt, add-div-right}
 use native.Mathlib.Numerals.{add-one}

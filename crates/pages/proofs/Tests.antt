@@ -7,10 +7,10 @@ use native.Mathlib.Omega.{arith}
 use lib.ListN.{length, getD}
 use Rattle.refusals.specs.Refusals.{lowest, refuse, Passes}
 use Rattle.refusals.proofs.Conditions.{said}
-use Rattle.refusals.proofs.Exact.{Unused, Distinct, decides, decided, passes, passed}
+use Rattle.refusals.proofs.Exact.{Unused, decides, decided, passes, passed}
 use Rattle.refusals.proofs.Positions.{lowest-below, lowest-before, lowest-fails, none-fails, first-fails}
 use Rattle.pages.specs.Pages.{wanted, rangeRows}
-use Rattle.pages.specs.Marks.{neither, differs, markRows, badRows, judged}
+use Rattle.pages.specs.Marks.{differs, badRows, judged}
 
 -- THE RANGE, 32 AND 33
 

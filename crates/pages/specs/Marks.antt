@@ -1,8 +1,9 @@
 -- Marks of pages: 0 where the page agrees with its slot, 1 where it differs (document 01, "Pages" and tests 31 and 34). `slots` is the
 -- bytes of the code slots, from the first on.
 use Prim.Native.Nat.{ℕ, zero, suc, _+_, _-_, _*_, _≤_, min}
-use mathlib.Core.Bool.{Bool, cond}
+use mathlib.Core.Bool.{Bool, true, cond}
 use mathlib.Core.List.{List, [], _∷_, _++_}
+use mathlib.Core.Logic.{_↔_}
 use mathlib.Core.Path.{_≡_}
 use lib.ListN.{length, getD, take, drop}
 use Rattle.refusals.specs.declared.Answer.{Answer}
@@ -20,6 +21,10 @@ slotAt slots i = take slotWidth (drop (slotWidth * i) slots)
 -- the bytes of page i agree with its slot
 unfoldable pub agrees : List ℕ → ℕ → List ℕ → Bool
 agrees slots i bytes = same (digest sha256 bytes) (slotAt slots i)
+
+-- that is: the slot holds the digest of the page
+abbrev pub AgreesExactly : Type 0
+AgreesExactly = (slots : List ℕ) (i : ℕ) (bytes : List ℕ) → (agrees slots i bytes ≡ true) ↔ (digest sha256 bytes ≡ slotAt slots i)
 
 unfoldable pub markOf : List ℕ → ℕ → List ℕ → ℕ
 markOf slots i bytes = cond (agrees slots i bytes) 0 1

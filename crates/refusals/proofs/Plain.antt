@@ -1,9 +1,9 @@
 -- What a test over positions says, in plain words and both ways: the search ends at the lowest position that fails, and nowhere else.
 use Prim.Native.Nat.{ℕ, _<_}
 use mathlib.Core.Bool.{true, false}
-use mathlib.Core.Path.{_≡_, sym, ap, subst, _∙_}
+use mathlib.Core.Path.{sym, ap, subst, _∙_}
 use native.Mathlib.Omega.{arith}
-use Rattle.refusals.specs.Refusals.{Cond, Says, lowest, faulty, LowestAt, FaultAt, OverPlainly, AmongPlainly}
+use Rattle.refusals.specs.Refusals.{Cond, lowest, faulty, LowestAt, OverPlainly, AmongPlainly}
 use Rattle.refusals.proofs.Conditions.{said}
 use Rattle.refusals.proofs.Positions.{lowest-before, lowest-fails, first-fails}
 

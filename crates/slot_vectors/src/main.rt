@@ -2,7 +2,6 @@
 // are made by the reference: tools/make-corpora. A case is three items: the signature, and for each side file a byte (1 where it is
 // there) and its bytes.
 use layout::directory::CodeDirectory;
-ghost use lib.ListN.{length};
 
 fn print_line(number: u32, place: usize) {
     corpus::print_answer(number, place);

@@ -4,7 +4,7 @@ use Prim.Native.Nat.{ℕ, zero, suc, _+_, _<_, _≤_}
 use mathlib.Core.Bool.{Bool, true, false, cond, not, _&&_, true≢false, false≢true}
 use mathlib.Core.List.{List, [], _∷_}
 use mathlib.Core.Logic.{_⊎_, inl, inr}
-use mathlib.Core.Path.{_≡_, refl, sym, ap, subst, _∙_}
+use mathlib.Core.Path.{_≡_, refl, sym, ap, _∙_}
 use native.Mathlib.Omega.{arith}
 use lib.Dec.{eqb}
 use lib.ListN.{getD}
@@ -14,11 +14,11 @@ use Rattle.digest.specs.Sha256.{sha256}
 use Rattle.digest.specs.Same.{same}
 use Rattle.digest.proofs.Equality.{same-equal, equal-same}
 use Rattle.refusals.specs.Ranges.{lookup}
-use Rattle.refusals.specs.Refusals.{holds, Passes, OneOf}
+use Rattle.refusals.specs.Refusals.{holds, OneOf}
 use Rattle.refusals.proofs.Conditions.{says, said}
 use Rattle.refusals.proofs.Several.{clear-passes, passes-clear}
 use Rattle.layout.specs.SuperBlob.{count, typeAt}
-use Rattle.superblob.specs.Rows.{slotMagics, magicOf, position, has, blobAt, blobOf}
+use Rattle.superblob.specs.Rows.{slotMagics, magicOf, position, has, blobOf}
 use Rattle.superblob.specs.Formed.{Formed}
 use Rattle.superblob.proofs.Lookup.{found-blob, has-position, blob-at}
 use Rattle.directory.specs.Rows.{mostSpecialSlots, specialSlot}

@@ -4,7 +4,7 @@
 // 6 cover nothing. A slot that is empty while its thing is there is refused, as is a slot that is filled while its thing is not. The
 // test's definition is specs/Slots.antt, and its plain reading specs/Matches.antt.
 ghost use mathlib.Core.Path.{_≡_};
-ghost use Rattle.refusals.specs.Refusals.{lowest, faulty, first, accepted, refuse};
+ghost use Rattle.refusals.specs.Refusals.{lowest, faulty, first, accepted};
 ghost use Rattle.digest.specs.Hash.{digest};
 ghost use Rattle.digest.specs.Sha256.{sha256};
 ghost use Rattle.digest.specs.Same.{same};

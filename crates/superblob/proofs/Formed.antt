@@ -3,14 +3,14 @@ use Prim.Native.Nat.{ℕ, _+_, _<_, _≤_}
 use mathlib.Core.Bool.{Bool, true, false}
 use mathlib.Core.List.{List}
 use mathlib.Core.Logic.{_⊎_, inl, inr, ⊎-elim}
-use mathlib.Core.Path.{_≡_, refl, sym}
+use mathlib.Core.Path.{_≡_, refl}
 use lib.Dec.{ltb}
 use borrow.Author.Tests.{ltb-true, ltb-false}
 use native.Mathlib.Omega.{arith}
 use Rattle.refusals.specs.Refusals.{Passes}
 use Rattle.refusals.proofs.Conditions.{said}
 use Rattle.refusals.proofs.Positions.{lowest-below, none-fails}
-use Rattle.layout.specs.SuperBlob.{count, typeAt, offsetAt, blobLength}
+use Rattle.layout.specs.SuperBlob.{count, offsetAt, blobLength}
 use Rattle.superblob.specs.Rows.{mostSide, unknown, sameType, repeated, outside, wrongMagic, shared, overlaps, headRows, indexRows, rows}
 use Rattle.superblob.specs.Formed.{Formed, FormedExactly}
 
@@ -79,7 +79,3 @@ formed-passes side s f l =
 
 pub formed-exactly : FormedExactly
 formed-exactly side s = ((λ p. (formed side s p, side-short side s p)), λ w. formed-passes side s (w .0) (w .1))
-
--- the side files stand in test 1 alone: what passes with them passes without
-pub side-passes : (side : ℕ) (s : List ℕ) → Passes (rows side s) → Passes (rows 0 s)
-side-passes side s p = formed-passes 0 s (formed side s p) (omega arith)

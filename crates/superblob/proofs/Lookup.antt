@@ -6,14 +6,14 @@ use mathlib.Core.List.{List, []}
 use mathlib.Core.Path.{_≡_, refl, sym, ap, ap₂, _∙_}
 use native.Mathlib.Nat.{add-zero}
 use native.Mathlib.Omega.{arith}
-use lib.ListN.{length, getD, take, drop, length-drop}
+use lib.ListN.{length, take, drop, length-drop}
 use lib.Seq.{getD-take, getD-drop, length-take-le}
 use Rattle.endian.specs.Numbers.{big}
 use Rattle.endian.proofs.Numbers.{big-part}
-use Rattle.refusals.specs.Refusals.{Says, pick, lowest, Passes, first, accepted}
+use Rattle.refusals.specs.Refusals.{Passes, first, accepted}
 use Rattle.refusals.proofs.Conditions.{said, pick-yes, pick-no}
 use Rattle.refusals.proofs.Exact.{passes-zero, passed}
-use Rattle.refusals.proofs.Positions.{lowest-fails, first-fails, lowest-most}
+use Rattle.refusals.proofs.Positions.{lowest-fails, first-fails}
 use Rattle.layout.specs.SuperBlob.{count, typeAt, offsetAt, blobMagic, blobLength}
 use Rattle.superblob.specs.Rows.{magicOf, rows, ofType, position, has, present, blobStart, blobEnd, blobAt, blobOf, blob}
 use Rattle.superblob.specs.Formed.{Formed}
@@ -22,11 +22,6 @@ use Rattle.superblob.proofs.Formed.{formed}
 use Rattle.superblob.proofs.Numbers.{rows-unused}
 
 -- POSITIONS
-
--- a position is at most the count
-pub position-most : (s : List ℕ) (t : ℕ) → position s t ≤ count s
-unfolding position
-position-most s t = lowest-most (ofType s t) (count s)
 
 has-type : (s : List ℕ) (t : ℕ) → position s t < count s → typeAt s (position s t) ≡ t
 unfolding position ofType

@@ -6,7 +6,7 @@
 // of the lent signature, not a copy. The table of tests is specs/Rows.antt.
 ghost use mathlib.Core.Path.{_≡_};
 ghost use Prim.Native.Nat.{_<_};
-ghost use Rattle.refusals.specs.Refusals.{holds, lowest, first, accepted, refuse};
+ghost use Rattle.refusals.specs.Refusals.{holds, lowest, first, accepted};
 ghost use Rattle.layout.specs.SuperBlob.{indexEnd, typeAt, offsetAt, blobMagic, blobLength, count};
 ghost use Rattle.superblob.specs.Rows.{magicOf, outside, shared, clashing, failing, headRows, indexRows, rows, position, has, startOf, blobOf, Found, blob};
 use layout::directory::CodeDirectory;

@@ -1,5 +1,4 @@
 -- Tests 32 and 33, of the page size and the code limit that are read.
-use mathlib.Core.Path.{_∙_}
 use borrow.Author.Needs.{needs}
 use Rattle.admission.proofs.input_tested.Statement.{statement}
 use Rattle.admission.proofs.input_tested.Tie as tie

@@ -1,10 +1,8 @@
 -- Tests 1 to 9, and where they pass 10, by whether the index has the directory's type, and the directory's own.
 use native.Mathlib.Omega.{arith}
-use mathlib.Core.Path.{ap, _∙_}
-use Rattle.refusals.specs.Refusals.{accepted, first}
 use Rattle.refusals.proofs.Joined.{stops}
 use Rattle.superblob.specs.Rows.{rows}
-use Rattle.directory.specs.Rows.{blobRows, directoryRows, signatureRows}
+use Rattle.directory.specs.Rows.{directoryRows, signatureRows}
 use Rattle.directory.proofs.Found.{found-none, found-some}
 use borrow.Author.Needs.{needs}
 use Rattle.directory.proofs.tested.Statement.{statement}

@@ -1,6 +1,4 @@
 -- The offset at the position of the type: by definition.
-use mathlib.Core.Path.{ap, _∙_}
-use Rattle.layout.specs.SuperBlob.{offsetAt}
 use borrow.Author.Needs.{needs}
 use Rattle.superblob.proofs.start_of.Statement.{statement}
 use Rattle.superblob.proofs.start_of.Tie as tie

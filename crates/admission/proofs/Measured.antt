@@ -1,0 +1,15 @@
+-- The starred examples of document 01, by computation from the definitions that the rows cite.
+use mathlib.Core.Path.{refl}
+use Rattle.endian.specs.Numbers.{big}
+use Rattle.refusals.specs.Refusals.{pick, holds, lowest, first}
+use Rattle.refusals.specs.Ranges.{lookup}
+use Rattle.layout.specs.CodeDirectory.{version, hashOffset, identOffset, nSpecialSlots, nCodeSlots, codeLimit, hashSize, hashType, pageSize, codeLimit64}
+use Rattle.pages.specs.Pages.{pageBytes, pageCount, metFirst, metEnd, rangeRows}
+use Rattle.directory.specs.Pages.{P, pages}
+use Rattle.directory.specs.Rows.{headSizes, headSize, headOf, specialOutside, codeOutside, zeroAt, identLength, fieldRows, slotRows, blobRows}
+use Rattle.admission.specs.Measured.{Measured}
+
+pub measured-table : Measured
+unfolding big pick holds lowest first lookup version hashOffset identOffset nSpecialSlots nCodeSlots codeLimit hashSize hashType pageSize codeLimit64 pageBytes pageCount metFirst metEnd rangeRows P pages headSizes headSize headOf specialOutside codeOutside zeroAt identLength fieldRows slotRows blobRows
+measured-table =
+    (refl, (refl, (refl, (refl, (refl, (refl, (refl, (refl, (refl, (refl, (refl, (refl, (refl, (refl, (refl, (refl, (refl, (refl, (refl, (refl, tt))))))))))))))))))))
