@@ -23,7 +23,7 @@ use Rattle.layout.specs.SuperBlob.{count}
 use Rattle.layout.specs.CodeDirectory.{directoryType}
 use Rattle.superblob.specs.Rows.{rows, position, has, blobOf}
 use Rattle.directory.specs.Rows.{mostSpecialSlots, directory, specialSlot, blobRows, directoryRows, signatureRows}
-use Rattle.slots.specs.Slots.{filled, nothing, there, thing, faultOf, fault, specialRows}
+use Rattle.slots.specs.Slots.{isEmpty, nothing, there, thing, faultOf, fault, specialRows}
 use Rattle.pages.specs.Marks.{badRows}
 use Rattle.pages.proofs.Marking.{marks-below}
 use Rattle.admission.specs.Input.{Lent, beside, longest, pageBytesOf, limitOf, slotsOf, marksBy, marksOf}
@@ -142,7 +142,7 @@ module _ (x y : Lent) (alike : Alike x y) where
     unfolding fault
     fault-same k l =
         ap (cond (eqb k 0) 0)
-        (faultOf-same (filled (directory t) k) (there s (x .sides) k) (there t (y .sides) k) (thing s (x .sides) k) (thing t (y .sides) k) (specialSlot (directory t) k)
+        (faultOf-same (isEmpty (directory t) k) (there s (x .sides) k) (there t (y .sides) k) (thing s (x .sides) k) (thing t (y .sides) k) (specialSlot (directory t) k)
         (there-same k) (thing-same k l))
 
     specialRows-same : specialRows s (directory t) (x .sides) ≡ specialRows t (directory t) (y .sides)

@@ -17,58 +17,58 @@ use Rattle.refusals.proofs.Exact.{passes}
 use Rattle.refusals.specs.declared.Answer.{Answer}
 use Rattle.superblob.specs.Rows.{has, blobOf}
 use Rattle.directory.specs.Rows.{specialSlot}
-use Rattle.slots.specs.Slots.{Sides, filled, there, thing, faultOf, fault, specialRows}
+use Rattle.slots.specs.Slots.{Sides, allZero, isEmpty, there, thing, faultOf, fault, specialRows}
 use Rattle.slots.proofs.Matches.{fault-known}
 
 -- THE FAULT
 
--- by the slot and the thing
-pub fault-empty : (f t a : Bool) → f ≡ false → t ≡ true → 23 ≡ faultOf f t a
+-- by whether the slot's bytes are all zero, the thing is there, and the digests agree
+pub fault-empty : (z t a : Bool) → z ≡ true → t ≡ true → 23 ≡ faultOf z t a
 unfolding faultOf
-fault-empty f t a p q = rw (p, q)
+fault-empty z t a p q = rw (p, q)
 
-pub fault-none : (f t a : Bool) → f ≡ false → t ≡ false → 0 ≡ faultOf f t a
+pub fault-none : (z t a : Bool) → z ≡ true → t ≡ false → 0 ≡ faultOf z t a
 unfolding faultOf
-fault-none f t a p q = rw (p, q)
+fault-none z t a p q = rw (p, q)
 
-pub fault-missing : (f t a : Bool) → f ≡ true → t ≡ false → 21 ≡ faultOf f t a
+pub fault-missing : (z t a : Bool) → z ≡ false → t ≡ false → 21 ≡ faultOf z t a
 unfolding faultOf
-fault-missing f t a p q = rw (p, q)
+fault-missing z t a p q = rw (p, q)
 
-pub fault-agrees : (f t a : Bool) → f ≡ true → t ≡ true → a ≡ true → 0 ≡ faultOf f t a
+pub fault-agrees : (z t a : Bool) → z ≡ false → t ≡ true → a ≡ true → 0 ≡ faultOf z t a
 unfolding faultOf
-fault-agrees f t a p q r = rw (p, q, r)
+fault-agrees z t a p q r = rw (p, q, r)
 
-pub fault-differs : (f t a : Bool) → f ≡ true → t ≡ true → a ≡ false → 22 ≡ faultOf f t a
+pub fault-differs : (z t a : Bool) → z ≡ false → t ≡ true → a ≡ false → 22 ≡ faultOf z t a
 unfolding faultOf
-fault-differs f t a p q r = rw (p, q, r)
+fault-differs z t a p q r = rw (p, q, r)
 
 module _ (s d : List ℕ) (x : Sides) where
   -- by the thing that slot k covers
   abbrev at : ℕ → Bool → List ℕ → ℕ
-  at k t b = faultOf (filled d k) t (same (digest sha256 b) (specialSlot d k))
+  at k t b = faultOf (allZero (specialSlot d k)) t (same (digest sha256 b) (specialSlot d k))
 
   pub fault-zero : (k : ℕ) → k ≡ 0 → 0 ≡ fault s d x k
   unfolding fault
   fault-zero k e = rw (eq-eqb k 0 e)
 
   pub fault-info : (k v : ℕ) → k ≡ 1 → v ≡ at k (x .infoThere) (x .info) → v ≡ fault s d x k
-  unfolding fault there thing
+  unfolding fault isEmpty there thing
   fault-info k v e h = rw (ne-eqb k 0 (omega arith), eq-eqb k 1 e) h
 
   pub fault-resources : (k v : ℕ) → k ≡ 3 → v ≡ at k (x .resourcesThere) (x .resources) → v ≡ fault s d x k
-  unfolding fault there thing
+  unfolding fault isEmpty there thing
   fault-resources k v e h = rw (ne-eqb k 0 (omega arith), ne-eqb k 1 (omega arith), eq-eqb k 3 e) h
 
   pub fault-nothing : (k v : ℕ) → (k ≡ 4) ⊎ (k ≡ 6) → v ≡ at k false (blobOf s k) → v ≡ fault s d x k
-  unfolding fault there thing
+  unfolding fault isEmpty there thing
   fault-nothing k v (inl e) h = rw (ne-eqb k 0 (omega arith), ne-eqb k 1 (omega arith), ne-eqb k 3 (omega arith), eq-eqb k 4 e) h
   fault-nothing k v (inr e) h =
       rw (ne-eqb k 0 (omega arith), ne-eqb k 1 (omega arith), ne-eqb k 3 (omega arith), ne-eqb k 4 (omega arith), eq-eqb k 6 e) h
 
   pub fault-blob : (k v : ℕ) → (k ≡ 0 → ⊥) → (k ≡ 1 → ⊥) → (k ≡ 3 → ⊥) → (k ≡ 4 → ⊥) → (k ≡ 6 → ⊥)
       → v ≡ at k (holds (has s k)) (blobOf s k) → v ≡ fault s d x k
-  unfolding fault there thing
+  unfolding fault isEmpty there thing
   fault-blob k v h0 h1 h3 h4 h6 h = rw (ne-eqb k 0 h0, ne-eqb k 1 h1, ne-eqb k 3 h3, ne-eqb k 4 h4, ne-eqb k 6 h6) h
 
   -- slot by slot

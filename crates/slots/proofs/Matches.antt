@@ -7,7 +7,6 @@ use mathlib.Core.Logic.{_⊎_, inl, inr}
 use mathlib.Core.Path.{_≡_, refl, sym, ap, _∙_}
 use native.Mathlib.Omega.{arith}
 use lib.Dec.{eqb}
-use lib.ListN.{getD}
 use borrow.Author.Tests.{eqb-true, eqb-false, ne-eqb}
 use Rattle.digest.specs.Hash.{digest}
 use Rattle.digest.specs.Sha256.{sha256}
@@ -22,20 +21,20 @@ use Rattle.superblob.specs.Rows.{slotMagics, magicOf, position, has, blobOf}
 use Rattle.superblob.specs.Formed.{Formed}
 use Rattle.superblob.proofs.Lookup.{found-blob, has-position, blob-at}
 use Rattle.directory.specs.Rows.{mostSpecialSlots, specialSlot}
-use Rattle.slots.specs.Slots.{Sides, allZero, filled, nothing, there, thing, faultOf, fault, specialRows}
+use Rattle.slots.specs.Slots.{Sides, isEmpty, nothing, there, thing, faultOf, fault, specialRows}
 use Rattle.slots.specs.Matches.{Filled, Empty, Thing, info-plist, code-resources, blob-of, Matches, MatchesExactly}
-use Rattle.slots.proofs.Zeros.{not-all-zero, some-not-zero}
+use Rattle.slots.proofs.Zeros.{zero-at, every-zero, not-all-zero, some-not-zero}
 
 -- THE FAULT
 
 -- it is 21, 22 or 23, or 0
-fault-one : (f t a : Bool) → OneOf (21 ∷ 22 ∷ 23 ∷ []) (faultOf f t a)
+fault-one : (e t a : Bool) → OneOf (21 ∷ 22 ∷ 23 ∷ []) (faultOf e t a)
 unfolding faultOf
-fault-one true false a = inl refl
-fault-one true true false = inr (inl refl)
-fault-one true true true = inr (inr (inr refl))
-fault-one false true a = inr (inr (inl refl))
-fault-one false false a = inr (inr (inr refl))
+fault-one false false a = inl refl
+fault-one false true false = inr (inl refl)
+fault-one false true true = inr (inr (inr refl))
+fault-one true true a = inr (inr (inl refl))
+fault-one true false a = inr (inr (inr refl))
 
 zero-either : (t : Bool) → cond {A = ℕ} t 0 0 ≡ 0
 zero-either true = refl
@@ -45,39 +44,29 @@ pub fault-known : (s d : List ℕ) (x : Sides) (k : ℕ) → OneOf (21 ∷ 22 �
 unfolding fault
 fault-known s d x k = by-test (eqb k 0)
   where
-    by-test : (t : Bool) → OneOf (21 ∷ 22 ∷ 23 ∷ []) (cond t 0 (faultOf (filled d k) (there s x k) (same (digest sha256 (thing s x k)) (specialSlot d k))))
+    by-test : (t : Bool) → OneOf (21 ∷ 22 ∷ 23 ∷ []) (cond t 0 (faultOf (isEmpty d k) (there s x k) (same (digest sha256 (thing s x k)) (specialSlot d k))))
     by-test true = inr (inr (inr refl))
-    by-test false = fault-one (filled d k) (there s x k) (same (digest sha256 (thing s x k)) (specialSlot d k))
+    by-test false = fault-one (isEmpty d k) (there s x k) (same (digest sha256 (thing s x k)) (specialSlot d k))
 
 -- THE SLOT
 
--- a slot that is filled has a byte that is not zero, and only such a slot
-filled-bytes : (d : List ℕ) (k : ℕ) → filled d k ≡ true → Filled d k
-unfolding filled
-filled-bytes d k e = by-test (allZero (specialSlot d k)) refl e
-  where
-    by-test : (z : Bool) → allZero (specialSlot d k) ≡ z → not z ≡ true → Filled d k
-    by-test true q e = absurd (false≢true e)
-    by-test false q e = some-not-zero (specialSlot d k) q
+-- a slot that is not empty has a byte that is not zero, and only such a slot
+filled-bytes : (d : List ℕ) (k : ℕ) → isEmpty d k ≡ false → Filled d k
+unfolding isEmpty
+filled-bytes d k e = some-not-zero (specialSlot d k) e
 
-bytes-filled : (d : List ℕ) (k : ℕ) → Filled d k → filled d k ≡ true
-unfolding filled
-bytes-filled d k h = rw (← not-all-zero (specialSlot d k) (h .0) (h .1))
+bytes-filled : (d : List ℕ) (k : ℕ) → Filled d k → isEmpty d k ≡ false
+unfolding isEmpty
+bytes-filled d k h = sym (not-all-zero (specialSlot d k) (h .0) (h .1))
 
--- a slot that is not filled is empty
-empty-bytes : (d : List ℕ) (k : ℕ) → filled d k ≡ false → Empty d k
-empty-bytes d k e j = by-test (eqb (getD (specialSlot d k) j 0) 0) refl
-  where
-    by-test : (t : Bool) → eqb (getD (specialSlot d k) j 0) 0 ≡ t → getD (specialSlot d k) j 0 ≡ 0
-    by-test true q = eqb-true _ _ q
-    by-test false q = absurd (true≢false (sym (bytes-filled d k (j, eqb-false _ _ q)) ∙ e))
+-- an empty slot has only zero bytes, and only such a slot
+empty-bytes : (d : List ℕ) (k : ℕ) → isEmpty d k ≡ true → Empty d k
+unfolding isEmpty
+empty-bytes d k e = zero-at (specialSlot d k) e
 
-bytes-empty : (d : List ℕ) (k : ℕ) → Empty d k → filled d k ≡ false
-bytes-empty d k h = by-test (filled d k) refl
-  where
-    by-test : (t : Bool) → filled d k ≡ t → filled d k ≡ false
-    by-test true e = let w = filled-bytes d k e in absurd (w .1 (h (w .0)))
-    by-test false e = e
+bytes-empty : (d : List ℕ) (k : ℕ) → Empty d k → isEmpty d k ≡ true
+unfolding isEmpty
+bytes-empty d k h = sym (every-zero (specialSlot d k) (λ i l. h i))
 
 -- THE THING
 
@@ -130,14 +119,14 @@ module _ (s : List ℕ) (x : Sides) (f : Formed s) where
 
   module _ (d : List ℕ) where
     -- no fault is left in two of the cases alone
-    by-tests : (k : ℕ) (f t a : Bool) → filled d k ≡ f → there s x k ≡ t → same (digest sha256 (thing s x k)) (specialSlot d k) ≡ a
+    by-tests : (k : ℕ) (f t a : Bool) → isEmpty d k ≡ f → there s x k ≡ t → same (digest sha256 (thing s x k)) (specialSlot d k) ≡ a
         → faultOf f t a ≡ 0 → Matches s d x k
     unfolding faultOf
-    by-tests k true false a p q r e = absurd (omega arith)
-    by-tests k true true false p q r e = absurd (omega arith)
-    by-tests k true true true p q r e = inl (filled-bytes d k p, (thing s x k, (there-thing k q, same-equal _ _ r)))
-    by-tests k false true a p q r e = absurd (omega arith)
-    by-tests k false false a p q r e = inr (empty-bytes d k p, λ b t. true≢false (sym (thing-there k b t .0) ∙ q))
+    by-tests k false false a p q r e = absurd (omega arith)
+    by-tests k false true false p q r e = absurd (omega arith)
+    by-tests k false true true p q r e = inl (filled-bytes d k p, (thing s x k, (there-thing k q, same-equal _ _ r)))
+    by-tests k true true a p q r e = absurd (omega arith)
+    by-tests k true false a p q r e = inr (empty-bytes d k p, λ b t. true≢false (sym (thing-there k b t .0) ∙ q))
 
     clear-matches : (k : ℕ) → 1 ≤ k → fault s d x k ≡ 0 → Matches s d x k
     unfolding fault

@@ -10,7 +10,7 @@ use borrow.Author.Tests.{eqb-true, eqb-false, eq-eqb}
 use Rattle.slots.specs.Slots.{allZero}
 
 -- each is zero
-zero-at : (l : List ℕ) → allZero l ≡ true → (i : ℕ) → getD l i 0 ≡ 0
+pub zero-at : (l : List ℕ) → allZero l ≡ true → (i : ℕ) → getD l i 0 ≡ 0
 unfolding allZero
 zero-at [] e i = refl
 zero-at (b ∷ bs) e i = at-first (eqb b 0) refl e i (zero-at bs)

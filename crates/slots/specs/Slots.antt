@@ -28,9 +28,9 @@ unfoldable pub allZero : List ℕ → Bool
 allZero [] = true
 allZero (b ∷ bs) = eqb b 0 && allZero bs
 
--- special slot k is filled: the directory has it, and its bytes are not all zero. A slot that is not filled is empty
-unfoldable pub filled : List ℕ → ℕ → Bool
-filled d k = not (allZero (specialSlot d k))
+-- special slot k is empty: its bytes are all zero, or the directory has it not. A slot that is not empty is filled
+unfoldable pub isEmpty : List ℕ → ℕ → Bool
+isEmpty d k = allZero (specialSlot d k)
 
 -- THE THING
 
@@ -48,17 +48,17 @@ thing s x k = cond (eqb k 1) (x .info) (cond (eqb k 3) (x .resources) (blobOf s 
 
 -- THE TEST
 
--- by: slot filled, thing there, digest of the thing in the slot
+-- by: slot empty, thing there, digest of the thing in the slot
 unfoldable pub faultOf : Bool → Bool → Bool → ℕ
-faultOf true false agrees = 21
-faultOf true true false = 22
-faultOf true true true = 0
-faultOf false true agrees = 23
-faultOf false false agrees = 0
+faultOf false false agrees = 21
+faultOf false true false = 22
+faultOf false true true = 0
+faultOf true true agrees = 23
+faultOf true false agrees = 0
 
 -- what is wrong at slot k, for k from 1; 0 where nothing is
 unfoldable pub fault : List ℕ → List ℕ → Sides → ℕ → ℕ
-fault s d x k = cond (eqb k 0) 0 (faultOf (filled d k) (there s x k) (same (digest sha256 (thing s x k)) (specialSlot d k)))
+fault s d x k = cond (eqb k 0) 0 (faultOf (isEmpty d k) (there s x k) (same (digest sha256 (thing s x k)) (specialSlot d k)))
 
 -- one test over k from 1 to 11
 unfoldable pub specialRows : List ℕ → List ℕ → Sides → List Row

@@ -8,8 +8,7 @@ ghost use Rattle.refusals.specs.Refusals.{lowest, faulty, first, accepted};
 ghost use Rattle.digest.specs.Hash.{digest};
 ghost use Rattle.digest.specs.Sha256.{sha256};
 ghost use Rattle.digest.specs.Same.{same};
-ghost use Rattle.directory.specs.Rows.{specialSlot};
-ghost use Rattle.slots.specs.Slots.{sides, allZero, filled, faultOf, fault, specialRows};
+ghost use Rattle.slots.specs.Slots.{sides, allZero, faultOf, fault, specialRows};
 use refusals::Answer;
 use refusals::answers::answer;
 
@@ -70,40 +69,33 @@ fn fault_at(
 ) -> u32
     ensures { λ r. ⌜ r ≡ fault (now (sig .entry)) (now (d .entry)) (sides «info_there» (now (info .entry)) «resources_there» (now (resources .entry))) k ⌝ }
 {
-    let slot = k as usize;
+    let slot = directory::special_slot(d, k as usize);
     match k {
         0 => 0,
-        1 => fault_of(d, slot, info_there, info),
-        3 => fault_of(d, slot, resources_there, resources),
-        4 | 6 => fault_of(d, slot, false, superblob::blob_of(sig, k)),
-        _ => fault_of(d, slot, superblob::has(sig, k), superblob::blob_of(sig, k)),
+        1 => fault_of(slot, info_there, info),
+        3 => fault_of(slot, resources_there, resources),
+        4 | 6 => fault_of(slot, false, superblob::blob_of(sig, k)),
+        _ => fault_of(slot, superblob::has(sig, k), superblob::blob_of(sig, k)),
     }
 }
 
-// What is wrong at special slot k of the directory d, by whether its thing is there, and the thing's bytes.
-fn fault_of(d: &[u8], k: usize, there: bool, thing: &[u8]) -> u32
-    ensures { λ r. ⌜ r ≡ faultOf (filled (now (d .entry)) k) there (same (digest sha256 (now (thing .entry))) (specialSlot (now (d .entry)) k)) ⌝ }
+// What is wrong at a special slot, by its bytes, whether its thing is there, and the thing's bytes.
+fn fault_of(slot: &[u8], there: bool, thing: &[u8]) -> u32
+    ensures { λ r. ⌜ r ≡ faultOf (allZero (now (slot .entry))) there (same (digest sha256 (now (thing .entry))) (now (slot .entry))) ⌝ }
 {
-    if is_filled(d, k) {
+    if all_zero(slot) {
         if there {
-            if digest::agrees(thing, directory::special_slot(d, k)) {
-                return 0;
-            }
-            return 22;
+            return 23;
         }
-        return 21;
+        return 0;
     }
     if there {
-        return 23;
+        if digest::agrees(thing, slot) {
+            return 0;
+        }
+        return 22;
     }
-    0
-}
-
-// The directory has special slot k, and its bytes are not all zero.
-fn is_filled(d: &[u8], k: usize) -> bool
-    ensures { λ r. ⌜ r ≡ filled (now (d .entry)) k ⌝ }
-{
-    !all_zero(directory::special_slot(d, k))
+    21
 }
 
 fn all_zero(slot: &[u8]) -> bool

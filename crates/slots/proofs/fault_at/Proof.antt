@@ -6,6 +6,9 @@ use borrow.Author.Needs.{needs}
 use Rattle.slots.proofs.fault_at.Statement.{statement}
 use Rattle.slots.proofs.fault_at.Tie as tie
 
+special-slot-requires : tie.Need-special-slot-requires
+special-slot-requires c κs = search needs
+
 fault-of-requires : tie.Need-fault-of-requires
 fault-of-requires c κs = search needs
 
@@ -48,6 +51,7 @@ pub fault-at-spec : {M : Type 1} → statement M
 fault-at-spec =
     tie.close
     (tie.spec
+    special-slot-requires
     fault-of-requires
     fault-of-requires-2
     blob-of-requires

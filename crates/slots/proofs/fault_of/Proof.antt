@@ -4,39 +4,28 @@ use borrow.Author.Needs.{needs}
 use Rattle.slots.proofs.fault_of.Statement.{statement}
 use Rattle.slots.proofs.fault_of.Tie as tie
 
-is-filled-requires : tie.Need-is-filled-requires
-is-filled-requires c κs = search needs
+all-zero-requires : tie.Need-all-zero-requires
+all-zero-requires c κs = search needs
 
-special-slot-requires : tie.Need-special-slot-requires
-special-slot-requires c κs = search needs
+returns : tie.Need-returns
+returns c = fault-empty _ _ _ (cc) (cc)
+
+returns-2 : tie.Need-returns-2
+returns-2 c = fault-none _ _ _ (cc) (cc)
 
 agrees-requires : tie.Need-agrees-requires
 agrees-requires c κs = search needs
 
-returns : tie.Need-returns
-returns c = fault-agrees _ _ _ (cc) (cc) (cc)
-
-returns-2 : tie.Need-returns-2
-returns-2 c = fault-differs _ _ _ (cc) (cc) (cc)
-
 returns-3 : tie.Need-returns-3
-returns-3 c = fault-missing _ _ _ (cc) (cc)
+returns-3 c = fault-agrees _ _ _ (cc) (cc) (cc)
 
 returns-4 : tie.Need-returns-4
-returns-4 c = fault-empty _ _ _ (cc) (cc)
+returns-4 c = fault-differs _ _ _ (cc) (cc) (cc)
 
 returns-5 : tie.Need-returns-5
-returns-5 c = fault-none _ _ _ (cc) (cc)
+returns-5 c = fault-missing _ _ _ (cc) (cc)
 
 pub fault-of-spec : {M : Type 1} → statement M
 fault-of-spec =
     tie.close
-    (tie.spec
-    is-filled-requires
-    special-slot-requires
-    agrees-requires
-    returns
-    returns-2
-    returns-3
-    returns-4
-    returns-5)
+    (tie.spec all-zero-requires returns returns-2 agrees-requires returns-3 returns-4 returns-5)
