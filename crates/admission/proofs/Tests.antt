@@ -38,10 +38,6 @@ module _ (x : Sides) (a b : ℕ) (e : a ≡ cond (x .infoThere) (length (x .info
 -- 19 AND 20, of a directory d, by a field n that was read
 
 module _ (d : List ℕ) (image marks n : ℕ) where
-  pub image-short : n ≡ codeLimit d → image < n → refuse 19 0 ≡ first (imageRows d image ++ countRows d marks) accepted
-  unfolding imageRows
-  image-short f h = decides _ accepted 19 0 (omega arith, refl)
-
   pub image-long : (a : Answer) → n ≡ codeLimit d → n ≤ image → a ≡ first (countRows d marks) accepted → a ≡ first (imageRows d image ++ countRows d marks) accepted
   unfolding imageRows
   image-long a f h q = goes-on (imageRows d image) (countRows d marks) accepted a (omega arith, tt) q

@@ -73,12 +73,12 @@ fn load(i: usize, out: &mut [u8]) -> Loaded
 }
 
 // Says what is wrong with a file, and whether something is: it could not be opened, or it is longer than the most.
-fn complain(opened: bool, length: usize, most: usize) -> bool {
+fn complain(opened: bool, size: usize, most: usize) -> bool {
     if !opened {
         io::write_all(1, b"no file\n");
         return true;
     }
-    if most < length {
+    if most < size {
         io::write_all(1, b"too long\n");
         return true;
     }

@@ -1,4 +1,4 @@
--- The versions that are known: those from 0x20001 to 0x20600 have a head, by the range that each lies in, and no other has.
+-- The versions that are known, from 0x20001 to 0x20600, have a head, by the range that each lies in, and no other has.
 use Prim.Native.Nat.{ℕ, _<_, _≤_}
 use mathlib.Core.Bool.{Bool, true, false}
 use mathlib.Core.List.{List}
@@ -9,7 +9,7 @@ use lib.Dec.{leb}
 use borrow.Author.Tests.{leb-true, leb-false}
 use Rattle.refusals.proofs.Ranges.{hits, misses}
 use Rattle.layout.specs.CodeDirectory.{version}
-use Rattle.directory.specs.Rows.{headSizes, headSize, headOf}
+use Rattle.directory.specs.Rows.{firstVersion, lastVersion, headSizes, headSize, headOf}
 
 split : {G : Type 0} (v b : ℕ) → (v ≤ b → G) → (b < v → G) → G
 split {G} v b f g = by-test (leb v b) refl
@@ -18,7 +18,7 @@ split {G} v b f g = by-test (leb v b) refl
     by-test true e = f (leb-true v b e)
     by-test false e = g (leb-false v b e)
 
-has-head : (v : ℕ) → 0x20001 ≤ v → v ≤ 0x20600 → headSize v ≡ 0 → ⊥
+has-head : (v : ℕ) → firstVersion ≤ v → v ≤ lastVersion → headSize v ≡ 0 → ⊥
 unfolding headSize headSizes
 has-head v l u z =
     split v 0x200FF (λ h. let e = hits 0 headSizes 0 v (omega arith) in omega arith)
@@ -29,18 +29,18 @@ has-head v l u z =
     (λ e. split v 0x205FF (λ h. let e = hits 5 headSizes 0 v (omega arith) in omega arith)
     (λ f. let e = hits 6 headSizes 0 v (omega arith) in omega arith))))))
 
-no-head : (v : ℕ) → (0x20001 ≤ v → v ≤ 0x20600 → ⊥) → headSize v ≡ 0
+no-head : (v : ℕ) → (firstVersion ≤ v → v ≤ lastVersion → ⊥) → headSize v ≡ 0
 unfolding headSize headSizes
 no-head v h =
     split v 0x20000 (λ l. sym (misses headSizes 0 v (omega arith)))
-    (λ l. split v 0x20600 (λ u. absurd (h (omega arith) u)) (λ u. sym (misses headSizes 0 v (omega arith))))
+    (λ l. split v lastVersion (λ u. absurd (h (omega arith) u)) (λ u. sym (misses headSizes 0 v (omega arith))))
 
 -- a directory has a head exactly where its version is known
-pub version-known : (d : List ℕ) → (headOf d ≡ 0 → ⊥) ↔ ((0x20001 ≤ version d) × (version d ≤ 0x20600))
+pub version-known : (d : List ℕ) → (headOf d ≡ 0 → ⊥) ↔ ((firstVersion ≤ version d) × (version d ≤ lastVersion))
 unfolding headOf
 version-known d = (
   (λ h.
       split (version d) 0x20000 (λ l. absurd (h (no-head (version d) (λ p q. omega arith))))
-      (λ l. split (version d) 0x20600 (λ u. (omega arith, u)) (λ u. absurd (h (no-head (version d) (λ p q. omega arith)))))),
+      (λ l. split (version d) lastVersion (λ u. (omega arith, u)) (λ u. absurd (h (no-head (version d) (λ p q. omega arith)))))),
   λ w. has-head (version d) (w .0) (w .1),
 )

@@ -10,7 +10,7 @@ use Rattle.layout.specs.CodeDirectory.{directoryType, sha256Type, slotWidth, ve
 use Rattle.superblob.specs.Rows.{mostSide, position}
 use Rattle.superblob.specs.Formed.{Formed}
 use Rattle.directory.specs.Pages.{pages}
-use Rattle.directory.specs.Rows.{mostPages, mostSpecialSlots, directory, headOf, limit64Version, blobRows, signatureRows}
+use Rattle.directory.specs.Rows.{mostPages, mostSpecialSlots, directory, firstVersion, lastVersion, headOf, limit64Version, blobRows, signatureRows}
 
 -- every slot lies between the head's end and the directory's
 pub record SlotsInside (d : List ℕ) : Type 0 where
@@ -20,7 +20,7 @@ pub record SlotsInside (d : List ℕ) : Type 0 where
 -- THE DIRECTORY, a blob d
 
 pub record DirectoryFormed (d : List ℕ) : Type 0 where
-  pub version-known : (0x20001 ≤ version d) × (version d ≤ 0x20600)
+  pub version-known : (firstVersion ≤ version d) × (version d ≤ lastVersion)
   pub has-version : versionEnd ≤ length d
   pub has-head : headOf d ≤ length d
   pub hash-type : hashType d ≡ sha256Type

@@ -26,16 +26,23 @@ directory s = blobOf s directoryType
 
 -- THE HEAD
 
+-- the versions that are known
+abbrev pub firstVersion : ℕ
+firstVersion = 0x20001
+
+abbrev pub lastVersion : ℕ
+lastVersion = 0x20600
+
 -- the size of the head, by the version
 unfoldable pub headSizes : List Range
 headSizes =
-    range 0x20001 0x200FF 44
+    range firstVersion 0x200FF 44
     ∷ range 0x20100 0x201FF 48
     ∷ range 0x20200 0x202FF 52
     ∷ range 0x20300 0x203FF 64
     ∷ range 0x20400 0x204FF 88
     ∷ range 0x20500 0x205FF 96
-    ∷ range 0x20600 0x20600 108
+    ∷ range lastVersion lastVersion 108
     ∷ []
 
 -- .. 0 where the version is refused

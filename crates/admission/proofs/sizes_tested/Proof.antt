@@ -1,5 +1,9 @@
 -- Test 19 by the code limit that is read, and where it passes test 20.
-use Rattle.admission.proofs.Tests.{image-short, image-long}
+use native.Mathlib.Omega.{arith}
+use Rattle.refusals.specs.Refusals.{accepted}
+use Rattle.refusals.proofs.Exact.{decides}
+use Rattle.admission.specs.Check.{imageRows, countRows}
+use Rattle.admission.proofs.Tests.{image-long}
 use borrow.Author.Needs.{needs}
 use Rattle.admission.proofs.sizes_tested.Statement.{statement}
 use Rattle.admission.proofs.sizes_tested.Tie as tie
@@ -8,7 +12,8 @@ code-limit-requires : tie.Need-code-limit-requires
 code-limit-requires c κs = search needs
 
 returns : tie.Need-returns
-returns c = image-short _ _ _ _ (c .before .code-limit .ensures .0) (c .if1 .taken)
+unfolding imageRows countRows
+returns c = decides _ accepted _ _ (omega arith)
 
 count-tested-requires : tie.Need-count-tested-requires
 count-tested-requires c κs = search needs
