@@ -9,18 +9,19 @@ use Rattle.refusals.specs.Refusals.{Row, Passes}
 use Rattle.refusals.proofs.Joined.{append-passes, passes-append}
 use Rattle.layout.specs.CodeDirectory.{directoryType, nCodeSlots, codeLimit}
 use Rattle.superblob.specs.Rows.{mostSide, position, blobOf}
-use Rattle.superblob.proofs.Lookup.{found-blob, has-position, blob-at}
-use Rattle.directory.specs.Rows.{mostSpecialSlots, directory, signatureRows}
+use Rattle.superblob.proofs.Lookup.{has-type, has-position, blob-at}
+use Rattle.directory.specs.Rows.{mostSpecialSlots, directory, cdhash, signatureRows}
 use Rattle.directory.specs.Formed.{DirectoryFormed, SignatureFormed}
 use Rattle.directory.proofs.Formed.{signature-exactly}
 use Rattle.slots.specs.Slots.{specialRows}
 use Rattle.slots.specs.Matches.{Matches}
 use Rattle.slots.proofs.Matches.{matches-exactly}
+use Rattle.trustcache.specs.Rows.{asNumber}
 use Rattle.trustcache.specs.Rules.{Listed}
 use Rattle.trustcache.specs.Table.{cacheRows}
-use Rattle.trustcache.proofs.Listed.{listed, entry-found, listed-passes}
+use Rattle.trustcache.proofs.Listed.{listed-exactly}
 use Rattle.pages.specs.Marks.{badRows}
-use Rattle.admission.specs.Input.{Lent, beside, longest, cdhash, marksOf}
+use Rattle.admission.specs.Input.{Lent, beside, longest, marksOf}
 use Rattle.admission.specs.Check.{imageRows, laterRows, countRows, checkRows, entryFor, checkTable}
 use Rattle.admission.specs.Admissible.{PagesAgree, Admissible}
 use Rattle.admission.proofs.Sides.{sides-short}
@@ -33,7 +34,7 @@ record Rules (x : Lent) (marksLength : ℕ) (d : List ℕ) (entry : ℕ) : Type 
   image-long : codeLimit d ≤ length (x .image)
   one-mark-a-page : marksLength ≡ nCodeSlots d
   special-slots : (k : ℕ) → 1 ≤ k → k ≤ mostSpecialSlots → Matches (x .signature) d (x .sides) k
-  entry-listed : Listed (x .cache) (cdhash d) (x .facts) entry
+  entry-listed : Listed (x .cache) (asNumber (cdhash d)) (x .facts) entry
   pages-agree : PagesAgree d (x .image)
 
 module _ (x : Lent) (m : ℕ) where
@@ -57,7 +58,7 @@ module _ (x : Lent) (m : ℕ) where
   specialGroup = specialRows s d (x .sides)
 
   abbrev cacheGroup : List Row
-  cacheGroup = cacheRows (x .cache) (cdhash d) (x .facts)
+  cacheGroup = cacheRows (x .cache) (asNumber (cdhash d)) (x .facts)
 
   abbrev pageGroup : List Row
   pageGroup = badRows (marksOf s (x .image))
@@ -103,13 +104,13 @@ module _ (x : Lent) (m : ℕ) where
         image-long = g .image .0;
         one-mark-a-page = g .marks .0;
         special-slots = matches-exactly s d (x .sides) (f .superblob) .0 (g .special);
-        entry-listed = listed (x .cache) (cdhash d) (x .facts) (g .cache);
+        entry-listed = listed-exactly (x .cache) (asNumber (cdhash d)) (x .facts) .0 .0 (g .cache);
         pages-agree = good-pages d (x .image) (f .formed .slot-a-page) (g .pages);
       }
 
   -- where no row holds the image may run: its directory is at the position of type 0, and its entry the one that the search finds
   admissible : Passes (checkTable x m) → Admissible x m
-  unfolding blobOf cdhash
+  unfolding blobOf
   admissible p =
       let g = groups p in
       let f = signature-exactly (longest (x .sides)) s .0 (g .signature) in
@@ -121,7 +122,7 @@ module _ (x : Lent) (m : ℕ) where
         resources-short = short .1;
         position = position s directoryType;
         position-below = f .has-directory;
-        position-type = found-blob s directoryType (f .superblob) (f .has-directory) .type-is;
+        position-type = has-type s directoryType (f .has-directory);
         directory = r .formed;
         image-long = r .image-long;
         one-mark-a-page = r .one-mark-a-page;
@@ -136,7 +137,6 @@ module _ (x : Lent) (m : ℕ) where
   module _ (may : Admissible x m) where
     -- the directory at the type's position is the one that may run
     may-rules : Rules x m d (may .entry)
-    unfolding cdhash
     may-rules =
         subst (λ (b : List ℕ). Rules x m b (may .entry)) (sym (blob-at s (may .superblob) (may .position) directoryType (may .position-below) (may .position-type)))
         (record {
@@ -153,6 +153,7 @@ module _ (x : Lent) (m : ℕ) where
     unfolding imageRows countRows
     may-groups =
         let r = may-rules in
+        let l = listed-exactly (x .cache) (asNumber (cdhash d)) (x .facts) in
         record {
           signature =
               signature-exactly (longest (x .sides)) s .1
@@ -165,14 +166,14 @@ module _ (x : Lent) (m : ℕ) where
           image = (r .image-long, tt);
           marks = (r .one-mark-a-page, tt);
           special = matches-exactly s d (x .sides) (may .superblob) .1 (r .special-slots);
-          cache = listed-passes (x .cache) (cdhash d) (x .facts) (may .entry) (r .entry-listed);
+          cache = l .0 .1 (rw (l .1 (may .entry) (r .entry-listed)) (r .entry-listed));
           pages = pages-good d (x .image) (r .formed .slot-a-page) (r .pages-agree);
         }
 
     -- its entry is the one that the search finds
     pub may-entry : entryFor (beside x) ≡ may .entry
     unfolding entryFor
-    may-entry = entry-found (x .cache) (cdhash d) (x .facts) (may .entry) (may-rules .entry-listed)
+    may-entry = listed-exactly (x .cache) (asNumber (cdhash d)) (x .facts) .1 (may .entry) (may-rules .entry-listed)
 
   pub admissible-exactly : Passes (checkTable x m) ↔ Admissible x m
   admissible-exactly = (admissible, λ may. groups-pass (may-groups may))

@@ -25,7 +25,7 @@ module _ (κs : Lfts 6) (a : ArgsD Rattle.admission.proofs.check.signat
       (now (a .1 .1 .0)) r (now (e .1 .1 .0))
   check-says r e h = h
 
--- THE RECHECK. Arguments in order: signature, start, length, bytes, marks
+-- THE RECHECK. Arguments in order: signature, start, size, contents, marks
 module _ (κs : Lfts 3) (a : ArgsD Rattle.admission.proofs.recheck.signature κs) where
   pub recheck-asks : recheck-reads.Asked κs a
   recheck-asks = tt

@@ -30,6 +30,7 @@ use Rattle.admission.specs.Demand3.{answerOf}
 use Rattle.admission.specs.Demand2.{Check2, Recheck2, Demand2}
 use Rattle.admission.proofs.Accepted.{admissible-exactly, may-entry}
 use Rattle.admission.proofs.Meets.{call-long, call-unmet, call-met}
+use Rattle.admission.proofs.PageRules.{slot-is}
 use Rattle.admission.proofs.Outcomes.{answer-passes, whole-marks}
 
 -- THE WHOLE CHECK
@@ -133,6 +134,7 @@ demand2 =
       over-positions = over-plainly;
       several-numbers = among-plainly;
       agrees-exactly = agrees-equal;
+      code-slots = slot-is;
       check = λ x marks v after e. subst (λ (o : CheckOutcome). Check2 x marks (o .verdict) (o .marks)) (sym e) (check2 x marks);
       recheck = λ s c marks a after e. subst (λ (o : CallOutcome). Recheck2 s c marks (o .answer) (o .marks)) (sym e) (recheck2 s c marks);
     }

@@ -18,13 +18,11 @@ use Rattle.pages.proofs.Marking.{mark-exact, mark-small, marks-length, marks-at
 use Rattle.directory.specs.Pages.{P, pages}
 use Rattle.directory.specs.Rows.{codeSlot, codeSlots}
 use Rattle.directory.proofs.Slots.{codeSlot-part}
-
--- every page's digest is its slot
-abbrev pub PagesAgree : List ℕ → List ℕ → Type 0
-PagesAgree d image = (i : ℕ) → i < nCodeSlots d → digest sha256 (pageOf (P d) (codeLimit d) i image) ≡ codeSlot d i
+use Rattle.admission.specs.Admissible.{PagesAgree}
+use Rattle.admission.specs.Demand2.{CodeSlotsAre}
 
 -- the slot that the marks go by is the directory's
-slot-is : (d : List ℕ) (i : ℕ) → i < nCodeSlots d → codeSlot d i ≡ slotAt (codeSlots d) i
+pub slot-is : CodeSlotsAre
 unfolding slotAt
 slot-is d i h = codeSlot-part d i h
 

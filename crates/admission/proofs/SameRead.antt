@@ -20,7 +20,7 @@ use Rattle.layout.specs.SuperBlob.{superHead, indexEntry, blobHead, magic, supe
 use Rattle.superblob.specs.Rows.{unknown, sameType, repeated, outside, wrongMagic, shared, overlaps, headRows, indexRows, rows, ofType, position, has, blobAt, blobOf}
 use Rattle.superblob.specs.Formed.{Formed}
 use Rattle.superblob.proofs.Formed.{formed}
-use Rattle.superblob.proofs.Lookup.{found-blob}
+use Rattle.superblob.proofs.Lookup.{has-type}
 use Rattle.admission.specs.Ignored.{Opaque, Free, padding, unread, SameRead}
 
 -- tests 5 to 7
@@ -239,4 +239,4 @@ module _ (s t : List ℕ) (same : SameRead s t) where
     pub blob-same : (k : ℕ) → (Opaque k → ⊥) → position s k < count s → blobOf s k ≡ blobOf t k
     unfolding blobOf
     blob-same k read h =
-        blobAt-same (position s k) h (λ o. read (rw (found-blob s k well-formed h .type-is) at o)) ∙ ap (blobAt t) (position-same k)
+        blobAt-same (position s k) h (λ o. read (rw (has-type s k h) at o)) ∙ ap (blobAt t) (position-same k)

@@ -12,15 +12,15 @@ use Rattle.refusals.proofs.Exact.{Unused, decides, passes}
 use Rattle.refusals.proofs.Joined.{stops, goes, goes-on}
 use Rattle.layout.specs.CodeDirectory.{codeLimit, nCodeSlots}
 use Rattle.directory.specs.Pages.{P}
-use Rattle.directory.specs.Rows.{directory, signatureRows}
+use Rattle.directory.specs.Rows.{directory, cdhash, signatureRows}
 use Rattle.directory.proofs.Numbers.{signatureRows-unused}
 use Rattle.slots.specs.Slots.{Sides, specialRows}
-use Rattle.trustcache.specs.Rows.{entryOf}
+use Rattle.trustcache.specs.Rows.{asNumber, entryOf}
 use Rattle.trustcache.specs.Table.{cacheRows, cacheAnswer}
 use Rattle.pages.specs.Pages.{rangeRows}
 use Rattle.pages.specs.Marks.{markRows}
 use Rattle.pages.proofs.Tests.{range-unused}
-use Rattle.admission.specs.Input.{Beside, longest, cdhash}
+use Rattle.admission.specs.Input.{Beside, longest}
 use Rattle.admission.specs.Check.{imageRows, countRows, laterRows, checkRows, entryFor, checkTested}
 use Rattle.admission.specs.Recheck.{recheckOf, inputRows, callRows}
 
@@ -77,7 +77,7 @@ module _ (x : Beside) (image marks side : ℕ) (q : side ≡ longest (x .sides))
   module _ (z : formed .number ≡ 0) (d : List ℕ) (k : d ≡ directory (x .signature))
       (sized : Answer) (f : sized ≡ first (imageRows d image ++ countRows d marks) accepted) where
     formed-goes : (a : Answer)
-        → a ≡ first (imageRows d image ++ countRows d marks ++ (specialRows (x .signature) d (x .sides) ++ cacheRows (x .cache) (cdhash d) (x .facts))) (refuse 0 (entryOf (x .cache) (cdhash d)))
+        → a ≡ first (imageRows d image ++ countRows d marks ++ (specialRows (x .signature) d (x .sides) ++ cacheRows (x .cache) (asNumber (cdhash d)) (x .facts))) (refuse 0 (entryOf (x .cache) (asNumber (cdhash d))))
         → a ≡ checkTested x image marks
     unfolding checkRows laterRows imageRows countRows entryFor
     formed-goes a g =
@@ -88,19 +88,20 @@ module _ (x : Beside) (image marks side : ℕ) (q : side ≡ longest (x .sides))
 
     module _ (y : sized .number ≡ 0) (matched : Answer) (g : matched ≡ first (specialRows (x .signature) d (x .sides)) accepted) where
       sized-goes : (a : Answer)
-          → a ≡ first (specialRows (x .signature) d (x .sides) ++ cacheRows (x .cache) (cdhash d) (x .facts)) (refuse 0 (entryOf (x .cache) (cdhash d)))
+          → a ≡ first (specialRows (x .signature) d (x .sides) ++ cacheRows (x .cache) (asNumber (cdhash d)) (x .facts)) (refuse 0 (entryOf (x .cache) (asNumber (cdhash d))))
           → a ≡ checkTested x image marks
       sized-goes a h = formed-goes a (goes (imageRows d image ++ countRows d marks) _ _ sized a (sizes-unused d image marks) f y h)
 
       pub matched-stops : (matched .number ≡ 0 → ⊥) → matched ≡ checkTested x image marks
       matched-stops ne = sized-goes matched (stops (specialRows (x .signature) d (x .sides)) _ _ matched g ne)
 
-      -- the cache decides, by the number of the hash that was cut
-      pub matched-goes : matched .number ≡ 0 → (a : Answer) (n : ℕ) → n ≡ cdhash d → a ≡ cacheAnswer (x .cache) n (x .facts) → a ≡ checkTested x image marks
-      matched-goes w a n l h =
+      -- the cache decides, by the hash that was cut
+      pub matched-goes : matched .number ≡ 0 → (a : Answer) (hash : List ℕ) → hash ≡ cdhash d → a ≡ cacheAnswer (x .cache) (asNumber hash) (x .facts)
+          → a ≡ checkTested x image marks
+      matched-goes w a hash l h =
           sized-goes a
           (goes (specialRows (x .signature) d (x .sides)) _ _ matched a (special-unused (x .signature) d (x .sides)) g w
-          (h ∙ ap (λ (m : ℕ). cacheAnswer (x .cache) m (x .facts)) l))
+          (h ∙ ap (λ (b : List ℕ). cacheAnswer (x .cache) (asNumber b) (x .facts)) l))
 
 -- 1 TO 18, 20, 32, 33 AND 34, in the recheck
 

@@ -3,16 +3,15 @@ use Prim.Native.Nat.{ℕ, _<_, _≤_}
 use mathlib.Core.Bool.{true}
 use mathlib.Core.List.{List}
 use mathlib.Core.Path.{_≡_}
-use lib.ListN.{length, take}
+use lib.ListN.{length}
 use Rattle.digest.specs.Hash.{digest}
 use Rattle.digest.specs.Sha256.{sha256}
 use Rattle.layout.specs.SuperBlob.{count, typeAt}
 use Rattle.layout.specs.CodeDirectory.{directoryType, nCodeSlots, codeLimit}
-use Rattle.layout.specs.TrustCache.{cdhashLength}
 use Rattle.superblob.specs.Rows.{mostSide, blobAt}
 use Rattle.superblob.specs.Formed.{Formed}
 use Rattle.directory.specs.Pages.{P}
-use Rattle.directory.specs.Rows.{mostSpecialSlots, codeSlot}
+use Rattle.directory.specs.Rows.{mostSpecialSlots, cdhash, codeSlot}
 use Rattle.directory.specs.Formed.{DirectoryFormed}
 use Rattle.pages.specs.Pages.{pageOf}
 use Rattle.slots.specs.Matches.{Matches}
@@ -39,6 +38,6 @@ pub record Admissible (x : Lent) (marksLength : ℕ) : Type 0 where
   pub special-slots : (k : ℕ) → 1 ≤ k → k ≤ mostSpecialSlots → Matches (x .signature) (blobAt (x .signature) position) (x .sides) k
   -- an entry of the cache, which is well formed, lists the directory's hash cut to 20 bytes, and its category allows the launch
   pub entry : ℕ
-  pub listed : Listed (x .cache) (asNumber (take cdhashLength (digest sha256 (blobAt (x .signature) position)))) (x .facts) entry
+  pub listed : Listed (x .cache) (asNumber (cdhash (blobAt (x .signature) position))) (x .facts) entry
   -- every page's digest is its slot
   pub pages-agree : PagesAgree (blobAt (x .signature) position) (x .image)

@@ -7,13 +7,13 @@ use lib.ListN.{length}
 use Rattle.refusals.specs.declared.Answer.{Answer}
 use Rattle.refusals.specs.Refusals.{_<?_, _≡?_, _≢?_, holds, Row, row, refuse, accepted, first}
 use Rattle.layout.specs.CodeDirectory.{codeLimit, nCodeSlots}
-use Rattle.directory.specs.Rows.{directory, signatureRows}
+use Rattle.directory.specs.Rows.{directory, cdhash, signatureRows}
 use Rattle.slots.specs.Slots.{specialRows}
-use Rattle.trustcache.specs.Rows.{entryOf}
+use Rattle.trustcache.specs.Rows.{asNumber, entryOf}
 use Rattle.trustcache.specs.Table.{cacheRows}
 use Rattle.pages.specs.Marks.{badRows}
 use Rattle.admission.specs.declared.Verdict.{Verdict}
-use Rattle.admission.specs.Input.{Beside, Lent, beside, longest, cdhash, marksOf}
+use Rattle.admission.specs.Input.{Beside, Lent, beside, longest, marksOf}
 
 -- 19: image shorter than codeLimit
 unfoldable pub imageRows : List ℕ → ℕ → List Row
@@ -26,7 +26,7 @@ countRows d marksLength = row 20 (marksLength ≢? nCodeSlots d) 0 ∷ []
 -- 20, 21 to 23, and 24 to 30, of the directory d
 unfoldable pub laterRows : Beside → List ℕ → ℕ → List Row
 laterRows x d marksLength =
-    countRows d marksLength ++ (specialRows (x .signature) d (x .sides) ++ cacheRows (x .cache) (cdhash d) (x .facts))
+    countRows d marksLength ++ (specialRows (x .signature) d (x .sides) ++ cacheRows (x .cache) (asNumber (cdhash d)) (x .facts))
 
 -- tests 1 to 30, by the lengths of the image and of the marks
 unfoldable pub checkRows : Beside → ℕ → ℕ → List Row
@@ -36,7 +36,7 @@ checkRows x imageLength marksLength =
 
 -- the entry of the cache that has the directory's hash
 unfoldable pub entryFor : Beside → ℕ
-entryFor x = entryOf (x .cache) (cdhash (directory (x .signature)))
+entryFor x = entryOf (x .cache) (asNumber (cdhash (directory (x .signature))))
 
 -- what tests 1 to 30 answer, with that entry where they pass
 abbrev pub checkTested : Beside → ℕ → ℕ → Answer

@@ -8,8 +8,10 @@ use mathlib.Core.Path.{_≡_}
 use lib.ListN.{length, getD}
 use Rattle.refusals.specs.declared.Answer.{Answer}
 use Rattle.refusals.specs.Refusals.{Decides, Passes, refuse, OverPlainly, AmongPlainly}
+use Rattle.layout.specs.CodeDirectory.{nCodeSlots}
+use Rattle.directory.specs.Rows.{codeSlot, codeSlots}
 use Rattle.pages.specs.Pages.{pageCount, pageOf}
-use Rattle.pages.specs.Marks.{badRows, agrees, AgreesExactly}
+use Rattle.pages.specs.Marks.{slotAt, badRows, agrees, AgreesExactly}
 use Rattle.admission.specs.declared.Verdict.{Verdict}
 use Rattle.admission.specs.Input.{Lent, pageBytesOf, limitOf, slotsOf}
 use Rattle.admission.specs.Check.{Checked, checkTable, verdictOf}
@@ -45,11 +47,16 @@ pub record Recheck2 (s : List ℕ) (c : Call) (marks : List ℕ) (a : Answer) (a
   pub met-written : (a .number ≡ 0) ⊎ (a .number ≡ 31) → (i : ℕ) → metBy s c i ≡ true
       → getD after i 0 ≡ cond (agrees (slotsOf s) i (lentPage s c i)) 0 1
 
+-- the slot that the marks go by is the directory's
+abbrev pub CodeSlotsAre : Type 0
+CodeSlotsAre = (d : List ℕ) (i : ℕ) → i < nCodeSlots d → codeSlot d i ≡ slotAt (codeSlots d) i
+
 pub record Demand2 : Type 0 where
   -- a test over positions holds with the lowest position at which its condition holds, and one with several numbers with the lowest fault
   pub over-positions : OverPlainly
   pub several-numbers : AmongPlainly
   -- a page agrees with its slot exactly when the slot holds its digest
   pub agrees-exactly : AgreesExactly
+  pub code-slots : CodeSlotsAre
   pub check : (x : Lent) (marks : List ℕ) (v : Verdict) (after : List ℕ) → Checked x marks v after → Check2 x marks v after
   pub recheck : (s : List ℕ) (c : Call) (marks : List ℕ) (a : Answer) (after : List ℕ) → Rechecked s c marks a after → Recheck2 s c marks a after

@@ -8,14 +8,14 @@ use mathlib.Core.Logic.{_⊎_}
 use mathlib.Core.Path.{_≡_}
 use lib.ListN.{length, getD}
 use Rattle.refusals.specs.Refusals.{Passes}
-use Rattle.layout.specs.SuperBlob.{superHead, blobHead, superLength, count, indexEnd, typeAt, offsetAt, blobLength}
+use Rattle.layout.specs.SuperBlob.{firstAlternate, lastAlternate, cmsType, superHead, blobHead, superLength, count, indexEnd, typeAt, offsetAt, blobLength}
 use Rattle.directory.specs.Rows.{signatureRows}
 use Rattle.admission.specs.Input.{Lent, longest, limitOf}
 use Rattle.admission.specs.Check.{checkOf}
 
 -- types whose blobs are not read behind their heads: 0x1000 to 0x1004 (alternate directories) and 0x10000 (CMS)
 abbrev pub Opaque : ℕ → Type 0
-Opaque t = ((0x1000 ≤ t) × (t ≤ 0x1004)) ⊎ (t ≡ 0x10000)
+Opaque t = ((firstAlternate ≤ t) × (t ≤ lastAlternate)) ⊎ (t ≡ cmsType)
 
 -- byte j lies in the head of the blob at position i, whatever length that blob states
 abbrev pub InHead : List ℕ → ℕ → ℕ → Type 0

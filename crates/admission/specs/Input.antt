@@ -3,16 +3,12 @@ use Prim.Native.Nat.{ℕ, _*_, _≤_}
 use mathlib.Core.Bool.{Bool, cond}
 use mathlib.Core.List.{List}
 use mathlib.Core.Path.{_≡_}
-use lib.ListN.{length, take}
-use Rattle.digest.specs.Hash.{digest}
-use Rattle.digest.specs.Sha256.{sha256}
+use lib.ListN.{length}
 use Rattle.refusals.specs.Refusals.{_<?_, pick}
 use Rattle.layout.specs.CodeDirectory.{slotWidth, codeLimit}
-use Rattle.layout.specs.TrustCache.{cdhashLength}
 use Rattle.directory.specs.Pages.{P}
 use Rattle.directory.specs.Rows.{directory, codeSlots}
 use Rattle.slots.specs.Slots.{Sides, sides}
-use Rattle.trustcache.specs.Rows.{asNumber}
 use Rattle.trustcache.specs.declared.launch.Launch.{Launch}
 use Rattle.pages.specs.Pages.{pageCount}
 use Rattle.pages.specs.Marks as Marks
@@ -59,10 +55,6 @@ longest x =
 -- the marks of an image
 abbrev pub marksBy : List ℕ → List ℕ → List ℕ
 marksBy d image = Marks.marksOf (P d) (codeLimit d) (codeSlots d) image
-
--- its hash cut to 20 bytes, as a number whose first byte is the most significant
-unfoldable pub cdhash : List ℕ → ℕ
-cdhash d = asNumber (take cdhashLength (digest sha256 d))
 
 -- OF A SIGNATURE, by its directory: P, the code limit, and the bytes of the code slots
 

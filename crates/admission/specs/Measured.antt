@@ -17,7 +17,7 @@ abbrev pub Hold : List Example → Type 0
 Hold [] = Unit
 Hold (x gives y ∷ es) = (x ≡ y) × Hold es
 
--- the head of a directory of version 0x20601
+-- a directory of 12 bytes, of version 0x20601
 abbrev pub newer : List ℕ
 newer = 0xFA ∷ 0xDE ∷ 0x0C ∷ 0x02 ∷ 0 ∷ 0 ∷ 0 ∷ 12 ∷ 0x00 ∷ 0x02 ∷ 0x06 ∷ 0x01 ∷ []
 

@@ -7,7 +7,7 @@ use mathlib.Core.Path.{_≡_}
 use lib.Dec.{ltb, leb}
 use Rattle.refusals.specs.Refusals.{Passes}
 use Rattle.directory.specs.Rows.{signatureRows}
-use Rattle.pages.specs.Pages.{pageCount, pageStart, pageEnd, part, metFirst, metEnd}
+use Rattle.pages.specs.Pages.{pageCount, pageStart, pageEnd, part, metFirst, metEnd, Shared}
 use Rattle.admission.specs.Input.{pageBytesOf, limitOf}
 use Rattle.admission.specs.Recheck.{Call, recheckOf}
 
@@ -30,4 +30,4 @@ lentPage s (recheckOf start size new) i =
 abbrev pub Meets : Type 0
 Meets = (s : List ℕ) (start size i : ℕ) → Passes (signatureRows 0 s) → start + size ≤ limitOf s → i < pageCount (pageBytesOf s) (limitOf s)
     → (meets s start size i ≡ true)
-    ↔ ((k : ℕ) × (((start ≤ k) × (k < start + size)) × ((pageStart (pageBytesOf s) i ≤ k) × (k < pageEnd (pageBytesOf s) (limitOf s) i))))
+    ↔ ((k : ℕ) × Shared (pageBytesOf s) (limitOf s) start size i k)

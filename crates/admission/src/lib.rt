@@ -9,7 +9,6 @@ use trustcache::Launch;
 ghost use mathlib.Core.Bool.{cond};
 ghost use mathlib.Core.List.{_++_};
 ghost use mathlib.Core.Path.{_≡_};
-ghost use lib.ListN.{length};
 ghost use Rattle.refusals.specs.Refusals.{first, accepted};
 ghost use Rattle.layout.specs.CodeDirectory.{codeLimit};
 ghost use Rattle.directory.specs.Pages.{P};
@@ -17,8 +16,7 @@ ghost use Rattle.directory.specs.Rows.{codeSlots};
 ghost use Rattle.pages.specs.Pages.{rangeRows};
 ghost use Rattle.pages.specs.Marks.{remarked, RangeHere};
 ghost use Rattle.slots.specs.Slots.{sides};
-ghost use Rattle.trustcache.specs.Rows.{asNumber};
-ghost use Rattle.admission.specs.Input.{besides, lent, longest, cdhash, marksBy, ImageHere};
+ghost use Rattle.admission.specs.Input.{besides, lent, longest, marksBy, ImageHere};
 ghost use Rattle.admission.specs.Check.{imageRows, countRows, checkTested, verdictOf, Checked};
 ghost use Rattle.admission.specs.Recheck.{recheckOf, callRows, Rechecked};
 
@@ -114,7 +112,7 @@ pub fn check_tested(
     if matched.number != 0 {
         return matched;
     }
-    trustcache::tested(cache, directory_hash(d), launch)
+    trustcache::tested(cache, directory::cdhash(d), launch)
 }
 
 // Tests 1 to 18, 20, 32, 33 and 34. No side file is lent.
@@ -193,13 +191,6 @@ fn input_tested(d: &[u8], start: u64, size: u64, given: usize) -> Answer
         size,
         given,
     )
-}
-
-// The first 20 bytes of the hash of the directory d.
-fn directory_hash(d: &[u8]) -> [u8; 20]
-    ensures { λ r. ⌜ asNumber r ≡ cdhash (now (d .entry)) ⌝ }
-{
-    digest::cut(digest::digest(d))
 }
 
 // Hashes every page of the image and writes its mark.

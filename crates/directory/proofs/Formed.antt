@@ -17,7 +17,6 @@ use Rattle.superblob.specs.Rows.{rows}
 use Rattle.superblob.proofs.Formed.{formed-exactly}
 use Rattle.directory.specs.Rows.{directory, zeroAt, identLength, fieldRows, slotRows, blobRows, directoryRows, signatureRows}
 use Rattle.directory.specs.Formed.{DirectoryFormed, DirectoryExactly, SignatureExactly}
-use Rattle.directory.proofs.Versions.{version-known}
 use Rattle.directory.proofs.Slots.{slots-inside}
 
 -- TEST 14
@@ -79,7 +78,7 @@ formed d p =
     let q = p .1 .1 .1 .1 .1 in
     let l : identLength d < length d - identOffset d = omega (arith, ident-most d, q .1 .1 .0 .1) in
     record {
-      version-known = version-known d .0 (p .0 (omega arith));
+      version-known = p .0 (omega arith);
       has-version = omega arith;
       has-head = omega arith;
       hash-type = omega arith;
@@ -102,7 +101,7 @@ a then b = (a, b)
 formed-passes : (d : List ℕ) → DirectoryFormed d → Passes (blobRows d)
 unfolding blobRows fieldRows slotRows
 formed-passes d f =
-    (λ l. version-known d .1 (f .version-known))
+    (λ l. f .version-known)
     then (f .has-version, f .has-head)
     then (f .hash-type, f .hash-size)
     then page-size-passes (pageSize d) (f .page-size)

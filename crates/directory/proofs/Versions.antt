@@ -2,8 +2,7 @@
 use Prim.Native.Nat.{ℕ, _<_, _≤_}
 use mathlib.Core.Bool.{Bool, true, false}
 use mathlib.Core.List.{List}
-use mathlib.Core.Logic.{_↔_}
-use mathlib.Core.Path.{_≡_, refl, sym}
+use mathlib.Core.Path.{_≡_, refl, sym, _∙_}
 use native.Mathlib.Omega.{arith}
 use lib.Dec.{leb}
 use borrow.Author.Tests.{leb-true, leb-false}
@@ -35,12 +34,14 @@ no-head v h =
     split v 0x20000 (λ l. sym (misses headSizes 0 v (omega arith)))
     (λ l. split v lastVersion (λ u. absurd (h (omega arith) u)) (λ u. sym (misses headSizes 0 v (omega arith))))
 
--- a directory has a head exactly where its version is known
-pub version-known : (d : List ℕ) → (headOf d ≡ 0 → ⊥) ↔ ((firstVersion ≤ version d) × (version d ≤ lastVersion))
-unfolding headOf
-version-known d = (
-  (λ h.
-      split (version d) 0x20000 (λ l. absurd (h (no-head (version d) (λ p q. omega arith))))
-      (λ l. split (version d) lastVersion (λ u. (omega arith, u)) (λ u. absurd (h (no-head (version d) (λ p q. omega arith)))))),
-  λ w. has-head (version d) (w .0) (w .1),
-)
+-- of the head size r that is found: it is 0 exactly where the version is not known
+module _ (d : List ℕ) (r : ℕ) (e : r ≡ headOf d) where
+  pub version-known : (r ≡ 0 → ⊥) → (firstVersion ≤ version d) × (version d ≤ lastVersion)
+  unfolding headOf
+  version-known h =
+      split (version d) 0x20000 (λ l. absurd (h (e ∙ no-head (version d) (λ p q. omega arith))))
+      (λ l. split (version d) lastVersion (λ u. (omega arith, u)) (λ u. absurd (h (e ∙ no-head (version d) (λ p q. omega arith)))))
+
+  pub version-unknown : r ≡ 0 → firstVersion ≤ version d → lastVersion < version d
+  unfolding headOf
+  version-unknown z l = split (version d) lastVersion (λ u. absurd (has-head (version d) l u (sym e ∙ z))) (λ u. u)

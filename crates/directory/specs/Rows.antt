@@ -6,8 +6,11 @@ use mathlib.Core.Bool.{cond}
 use lib.ListN.{length, getD, take, drop}
 use Rattle.refusals.specs.Ranges.{Range, range, lookup}
 use Rattle.refusals.specs.Refusals.{_<?_, _≤?_, _≡?_, _≢?_, _and_, _or_, Cond, holds, lowest, Row, row}
+use Rattle.digest.specs.Hash.{digest}
+use Rattle.digest.specs.Sha256.{sha256}
 use Rattle.layout.specs.SuperBlob.{count}
 use Rattle.layout.specs.CodeDirectory.{directoryType, sha256Type, slotWidth, versionEnd, version, hashOffset, identOffset, nSpecialSlots, nCodeSlots, hashSize, hashType, pageSize, codeLimit64}
+use Rattle.layout.specs.TrustCache.{cdhashLength}
 use Rattle.superblob.specs.Rows.{rows, position, blobOf}
 use Rattle.directory.specs.Pages.{pages}
 
@@ -24,6 +27,10 @@ mostSpecialSlots = 11
 abbrev pub directory : List ℕ → List ℕ
 directory s = blobOf s directoryType
 
+-- its hash covers the whole blob, head included, and is cut to 20 bytes
+unfoldable pub cdhash : List ℕ → List ℕ
+cdhash d = take cdhashLength (digest sha256 d)
+
 -- THE HEAD
 
 -- the versions that are known
@@ -33,13 +40,17 @@ firstVersion = 0x20001
 abbrev pub lastVersion : ℕ
 lastVersion = 0x20600
 
+-- the first version that has codeLimit64
+abbrev pub limit64Version : ℕ
+limit64Version = 0x20300
+
 -- the size of the head, by the version
 unfoldable pub headSizes : List Range
 headSizes =
     range firstVersion 0x200FF 44
     ∷ range 0x20100 0x201FF 48
     ∷ range 0x20200 0x202FF 52
-    ∷ range 0x20300 0x203FF 64
+    ∷ range limit64Version 0x203FF 64
     ∷ range 0x20400 0x204FF 88
     ∷ range 0x20500 0x205FF 96
     ∷ range lastVersion lastVersion 108
@@ -51,10 +62,6 @@ headSize v = lookup headSizes 0 v
 
 unfoldable pub headOf : List ℕ → ℕ
 headOf d = headSize (version d)
-
--- the first version that has codeLimit64
-abbrev pub limit64Version : ℕ
-limit64Version = 0x20300
 
 -- THE SLOTS
 
@@ -95,7 +102,7 @@ identLength d = lowest (zeroAt d) (length d - identOffset d)
 
 unfoldable pub fieldRows : List ℕ → List Row
 fieldRows d =
-    row 11 (versionEnd ≤? length d and headOf d ≡? 0) 0
+    row 11 (versionEnd ≤? length d and (version d <? firstVersion or lastVersion <? version d)) 0
     ∷ row 12 (length d <? versionEnd or length d <? headOf d) 0
     ∷ row 13 (hashType d ≢? sha256Type or hashSize d ≢? slotWidth) 0
     ∷ row 14 (pageSize d ≢? 0 and pageSize d ≢? 12 and pageSize d ≢? 14) 0

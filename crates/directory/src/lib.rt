@@ -1,15 +1,15 @@
 // The CodeDirectory of a signature: tests 10 to 18 of document 01, its fields and its slots.
 //
 // The directory is the blob of type 0. It is refused where its version has no head size, where its head, a slot or the
-// identifier does not lie inside it, where its hash is not SHA-256, and where its slots are not those that its code limit
-// asks for. The table of tests is specs/Rows.antt, its pages specs/Pages.antt.
+// identifier does not lie inside it, where its hash is not SHA-256, its page size not known or its code limit of 64 bits, and
+// where its slots are not those that its code limit asks for. The table of tests is specs/Rows.antt, its pages specs/Pages.antt.
 ghost use mathlib.Core.Path.{_≡_};
 ghost use Prim.Native.Nat.{_-_, _<_};
 ghost use lib.ListN.{length};
 ghost use Rattle.refusals.specs.Refusals.{holds, first, accepted};
 ghost use Rattle.layout.specs.CodeDirectory.{identOffset, codeLimit};
 ghost use Rattle.directory.specs.Pages.{P, pages};
-ghost use Rattle.directory.specs.Rows.{headSize, headOf, specialOutside, codeOutside, identLength, fieldRows, slotRows, blobRows, signatureRows, specialSlot, codeSlots};
+ghost use Rattle.directory.specs.Rows.{headSize, headOf, specialOutside, codeOutside, identLength, fieldRows, slotRows, blobRows, signatureRows, specialSlot, codeSlots, cdhash};
 use layout::directory::CodeDirectory;
 use layout::parts::part;
 use refusals::Answer;
@@ -20,7 +20,8 @@ const LIMIT64_VERSION: usize = 0x20300;
 
 const MOST_PAGES: usize = 65536;
 
-const MOST_SPECIAL_SLOTS: usize = 11;
+// The highest special slot.
+pub const MOST_SPECIAL_SLOTS: u32 = 11;
 
 // Tests 1 to 18. `side` is the length of the longest side file that is there, 0 where none is.
 pub fn tested(sig: &[u8], side: usize) -> Answer
@@ -34,6 +35,13 @@ pub fn tested(sig: &[u8], side: usize) -> Answer
         return blob_tested(superblob::blob_of(sig, CodeDirectory::TYPE));
     }
     answer(10, 0)
+}
+
+// The first 20 bytes of the directory's hash.
+pub fn cdhash(d: &[u8]) -> [u8; 20]
+    ensures { λ r. ⌜ r ≡ cdhash (now (d .entry)) ⌝ }
+{
+    digest::cut(digest::digest(d))
 }
 
 // The code limit.
@@ -130,7 +138,7 @@ fn slots_tested(d: &[u8]) -> Answer
     if MOST_PAGES < code {
         return answer(16, 0);
     }
-    if MOST_SPECIAL_SLOTS < special {
+    if (MOST_SPECIAL_SLOTS as usize) < special {
         return answer(16, 0);
     }
     if special_outside(d) {

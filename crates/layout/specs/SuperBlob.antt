@@ -41,6 +41,17 @@ launchConstraintMagic = 0xFADE8181
 abbrev pub blobWrapperMagic : ℕ
 blobWrapperMagic = 0xFADE0B01
 
+-- slot types whose blobs are not read behind their heads: the alternate directories (CSSLOT_ALTERNATE_CODEDIRECTORIES and the four behind it), and
+-- the CMS signature (CSSLOT_SIGNATURESLOT)
+abbrev pub firstAlternate : ℕ
+firstAlternate = 0x1000
+
+abbrev pub lastAlternate : ℕ
+lastAlternate = 0x1004
+
+abbrev pub cmsType : ℕ
+cmsType = 0x10000
+
 -- THE HEAD
 
 unfoldable pub magic : List ℕ → ℕ

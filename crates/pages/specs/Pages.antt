@@ -44,7 +44,7 @@ metEnd p start size = pick (size ≡? 0) 0 ((start + (size - 1)) / p + 1)
 
 -- byte k lies in the range, and in page i
 abbrev pub Shared : ℕ → ℕ → ℕ → ℕ → ℕ → ℕ → Type 0
-Shared p limit start size i k = ((start ≤ k) × (k < start + size)) × ((p * i ≤ k) × (k < pageEnd p limit i))
+Shared p limit start size i k = ((start ≤ k) × (k < start + size)) × ((pageStart p i ≤ k) × (k < pageEnd p limit i))
 
 -- where the last page met ends; 0 where none is met
 abbrev pub metStop : ℕ → ℕ → ℕ → ℕ → ℕ

@@ -6,7 +6,7 @@
 --   over n b f      a test over the positions below b, which names the lowest at which f holds;
 --   among b f ns    a test over the positions below b that gives several numbers: the lowest position with a fault decides, whichever
 --                   of the numbers ns its fault is.
--- proofs/Exact.antt: the answer is n at p exactly when row n holds with place p and no row before it holds.
+-- The answer is n at p exactly when row n holds with place p and no row before it holds (`Exact` below).
 use Prim.Native.Nat.{ℕ, zero, suc, _<_, _≤_}
 use mathlib.Core.Bool.{Bool, true, false, not, cond, _&&_, _||_}
 use mathlib.Core.List.{List, [], _∷_}
@@ -57,6 +57,7 @@ pick c x y = cond (holds c) x y
 
 -- POSITIONS
 
+-- the one number where the test holds, else the other
 abbrev pub orAt : Bool → ℕ → ℕ → ℕ
 orAt true p n = p
 orAt false p n = n
@@ -101,6 +102,7 @@ first (row n c p ∷ rows) done = cond (holds c) (refuse n p) (first rows done)
 
 -- WHAT A TABLE SAYS
 
+-- the one statement where the test holds, else the other
 abbrev pub either : Bool → Type 0 → Type 0 → Type 0
 either true A B = A
 either false A B = B

@@ -1,7 +1,6 @@
 // The answer of a check: a number of the table of refusals and a place.
 //
-// How the table decides is stated in specs/Refusals.antt; specs/Exact.antt proves that each number is given exactly when its own row is the
-// first to hold.
+// specs/Refusals.antt states how the table decides, and that each number is given exactly when its own row is the first to hold (`Exact`).
 pub mod answers;
 
 // A refusal number with its place, or 0 where nothing is refused.

@@ -19,7 +19,7 @@ use Rattle.refusals.proofs.Several.{clear-passes, passes-clear}
 use Rattle.layout.specs.SuperBlob.{count, typeAt}
 use Rattle.superblob.specs.Rows.{slotMagics, magicOf, position, has, blobOf}
 use Rattle.superblob.specs.Formed.{Formed}
-use Rattle.superblob.proofs.Lookup.{found-blob, has-position, blob-at}
+use Rattle.superblob.proofs.Lookup.{has-type, has-position, blob-at}
 use Rattle.directory.specs.Rows.{mostSpecialSlots, specialSlot}
 use Rattle.slots.specs.Slots.{Sides, isEmpty, nothing, there, thing, faultOf, fault, specialRows}
 use Rattle.slots.specs.Matches.{Filled, Empty, Thing, info-plist, code-resources, blob-of, Matches, MatchesExactly}
@@ -82,7 +82,7 @@ module _ (s : List ℕ) (x : Sides) (f : Formed s) where
   unfolding has blobOf
   blob-there k n1 n3 e =
       let h : position s k < count s = said true (has s k) (sym e) in
-      blob-of (position s k) n1 n3 h (found-blob s k f h .type-is)
+      blob-of (position s k) n1 n3 h (has-type s k h)
 
   -- what the test takes for there is there
   there-thing : (k : ℕ) → there s x k ≡ true → Thing s x k (thing s x k)
@@ -101,9 +101,9 @@ module _ (s : List ℕ) (x : Sides) (f : Formed s) where
   known : (i k : ℕ) → i < count s → typeAt s i ≡ k → (k ≡ 4) ⊎ (k ≡ 6) → ⊥
   known i k h e o = f .inside i h .known (ap magicOf e ∙ magic-none k o)
 
-  has-type : (i k : ℕ) → i < count s → typeAt s i ≡ k → holds (has s k) ≡ true
+  holds-type : (i k : ℕ) → i < count s → typeAt s i ≡ k → holds (has s k) ≡ true
   unfolding has
-  has-type i k h e = sym (says true (has s k) (has-position s f i k h e))
+  holds-type i k h e = sym (says true (has s k) (has-position s f i k h e))
 
   -- and what is there the test takes for there, with its bytes
   thing-there : (k : ℕ) (b : List ℕ) → Thing s x k b → (there s x k ≡ true) × (thing s x k ≡ b)
@@ -111,7 +111,7 @@ module _ (s : List ℕ) (x : Sides) (f : Formed s) where
   thing-there _ _ (info-plist e) = (e, refl)
   thing-there _ _ (code-resources e) = (e, refl)
   thing-there k _ (blob-of i n1 n3 h e) = (
-    rw (ne-eqb k 1 n1, ne-eqb k 3 n3, ne-eqb k 4 (λ q. known i k h e (inl q)), ne-eqb k 6 (λ q. known i k h e (inr q))) (has-type i k h e),
+    rw (ne-eqb k 1 n1, ne-eqb k 3 n3, ne-eqb k 4 (λ q. known i k h e (inl q)), ne-eqb k 6 (λ q. known i k h e (inr q))) (holds-type i k h e),
     rw (ne-eqb k 1 n1, ne-eqb k 3 n3) (blob-at s f i k h e),
   )
 

@@ -22,7 +22,8 @@ Filled d k = (j : ℕ) × (getD (specialSlot d k) j 0 ≡ 0 → ⊥)
 abbrev pub Empty : List ℕ → ℕ → Type 0
 Empty d k = (j : ℕ) → getD (specialSlot d k) j 0 ≡ 0
 
--- the thing that slot k covers is there, and b is its bytes: a blob is there where its type stands in the index
+-- the thing that slot k covers is there, and b is its bytes: a blob is there where its type stands in the index. Types 4 and 6, of which nothing can
+-- be there, stand in no index that is well formed
 pub data Thing (s : List ℕ) (x : Sides) : ℕ → List ℕ → Type 0 where
   info-plist : x .infoThere ≡ true → Thing s x 1 (x .info)
   code-resources : x .resourcesThere ≡ true → Thing s x 3 (x .resources)

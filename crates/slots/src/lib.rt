@@ -8,12 +8,12 @@ ghost use Rattle.refusals.specs.Refusals.{lowest, faulty, first, accepted};
 ghost use Rattle.digest.specs.Hash.{digest};
 ghost use Rattle.digest.specs.Sha256.{sha256};
 ghost use Rattle.digest.specs.Same.{same};
+ghost use Prim.Native.Nat.{_+_};
+ghost use Rattle.directory.specs.Rows.{mostSpecialSlots};
 ghost use Rattle.slots.specs.Slots.{sides, allZero, faultOf, fault, specialRows};
+use directory::MOST_SPECIAL_SLOTS;
 use refusals::Answer;
 use refusals::answers::answer;
-
-// The last special slot.
-const LAST: u32 = 11;
 
 // Tests 21 to 23 of the directory d, over k from 1 to 11. A side file whose flag is off is not read.
 pub fn tested(
@@ -27,7 +27,7 @@ pub fn tested(
     ensures { λ r. ⌜ r ≡ first (specialRows (now (sig .entry)) (now (d .entry)) (sides «info_there» (now (info .entry)) «resources_there» (now (resources .entry)))) accepted ⌝ }
 {
     let k = lowest_fault(sig, d, info_there, info, resources_there, resources);
-    if LAST < k {
+    if MOST_SPECIAL_SLOTS < k {
         return answer(0, 0);
     }
     answer(
@@ -45,10 +45,10 @@ fn lowest_fault(
     resources_there: bool,
     resources: &[u8],
 ) -> u32
-    ensures { λ r. ⌜ r ≡ lowest (faulty (fault (now (sig .entry)) (now (d .entry)) (sides «info_there» (now (info .entry)) «resources_there» (now (resources .entry))))) 12 ⌝ }
+    ensures { λ r. ⌜ r ≡ lowest (faulty (fault (now (sig .entry)) (now (d .entry)) (sides «info_there» (now (info .entry)) «resources_there» (now (resources .entry))))) (mostSpecialSlots + 1) ⌝ }
 {
     let mut k: u32 = 1;
-    while k <= LAST {
+    while k <= MOST_SPECIAL_SLOTS {
         if fault_at(sig, d, info_there, info, resources_there, resources, k) != 0 {
             return k;
         }

@@ -7,23 +7,23 @@ use mathlib.Core.Path.{_≡_, refl, sym, ap, ap₂, _∙_}
 use native.Mathlib.Nat.{add-zero}
 use native.Mathlib.Omega.{arith}
 use lib.ListN.{length, take, drop, length-drop}
-use lib.Seq.{getD-take, getD-drop, length-take-le}
+use lib.Seq.{length-take-le}
 use Rattle.endian.specs.Numbers.{big}
 use Rattle.endian.proofs.Numbers.{big-part}
 use Rattle.refusals.specs.Refusals.{Passes, first, accepted}
 use Rattle.refusals.proofs.Conditions.{said, pick-yes, pick-no}
 use Rattle.refusals.proofs.Exact.{passes-zero, passed}
-use Rattle.refusals.proofs.Positions.{lowest-fails, first-fails}
+use Rattle.refusals.proofs.Positions.{lowest-fails, none-fails, first-fails}
 use Rattle.layout.specs.SuperBlob.{count, typeAt, offsetAt, blobMagic, blobLength}
-use Rattle.superblob.specs.Rows.{magicOf, rows, ofType, position, has, present, blobStart, blobEnd, blobAt, blobOf, blob}
+use Rattle.superblob.specs.Rows.{magicOf, rows, ofType, position, has, present, startOf, blobStart, blobEnd, blobAt, blobOf, blob}
 use Rattle.superblob.specs.Formed.{Formed}
-use Rattle.superblob.specs.Lookup.{FoundBlob, Lookups}
+use Rattle.superblob.specs.Lookup.{Lookups}
 use Rattle.superblob.proofs.Formed.{formed}
 use Rattle.superblob.proofs.Numbers.{rows-unused}
 
 -- POSITIONS
 
-has-type : (s : List ℕ) (t : ℕ) → position s t < count s → typeAt s (position s t) ≡ t
+pub has-type : (s : List ℕ) (t : ℕ) → position s t < count s → typeAt s (position s t) ≡ t
 unfolding position ofType
 has-type s t h = said true (ofType s t (position s t)) (lowest-fails (ofType s t) (count s) h)
 
@@ -55,7 +55,13 @@ states : (s : List ℕ) (i : ℕ) → big 4 s (offsetAt s i + 4) ≡ blobLength 
 unfolding blobLength
 states s i = refl
 
-pub found-blob : (s : List ℕ) (t : ℕ) → Formed s → position s t < count s → FoundBlob s t
+-- the blob at the position of type t, of a SuperBlob that is well formed
+record FoundBlob (s : List ℕ) (t : ℕ) : Type 0 where
+  length-is : length (blobOf s t) ≡ blobLength s (position s t)
+  magic-is : big 4 (blobOf s t) 0 ≡ magicOf t
+  states-length : big 4 (blobOf s t) 4 ≡ length (blobOf s t)
+
+found-blob : (s : List ℕ) (t : ℕ) → Formed s → position s t < count s → FoundBlob s t
 found-blob s t f h =
     let i = position s t in
     let o = f .inside i h in
@@ -67,11 +73,7 @@ found-blob s t f h =
     let g : (n k : ℕ) → k + n ≤ length (blobOf s t) → big n (blobOf s t) k ≡ big n s (offsetAt s i + k) =
     λ n k q. rw w (big-part n (blobLength s i) (offsetAt s i) k s (omega arith)) in
     record {
-      type-is = y;
-      is-part = w;
       length-is = m;
-      has-head = omega arith;
-      byte-is = λ k q. rw w (getD-take (blobLength s i) (drop (offsetAt s i) s) k 0 (omega arith) ∙ getD-drop (offsetAt s i) s k 0);
       magic-is = g 4 0 (omega arith) ∙ opens s i ∙ o .right-magic ∙ ap magicOf y;
       states-length = g 4 4 (omega arith) ∙ states s i ∙ sym m;
     }
@@ -79,13 +81,13 @@ found-blob s t f h =
 -- THE LOOKUP
 
 -- it hands back the blob at the type's position ..
-blob-found : (s : List ℕ) (t : ℕ) → Passes (rows 0 s) → position s t < count s → blob s t ≡ blobOf s t
+pub blob-found : (s : List ℕ) (t : ℕ) → Passes (rows 0 s) → position s t < count s → blob s t ≡ blobOf s t
 unfolding blob blobStart blobEnd present has
 blob-found s t p h =
     let e = passes-zero (rows 0 s) accepted refl p in
     let i = position s t in
-    let a = pick-yes (present s t) (offsetAt s i) 0 (offsetAt s i) (e, h) refl in
-    let b = pick-yes (present s t) (offsetAt s i + blobLength s i) 0 (offsetAt s i + blobLength s i) (e, h) refl in
+    let a = pick-yes (present s t) (startOf s t) 0 (startOf s t) (e, h) refl in
+    let b = pick-yes (present s t) (startOf s t + blobLength s i) 0 (startOf s t + blobLength s i) (e, h) refl in
     let m : blobEnd s t - blobStart s t ≡ blobLength s i = omega arith in
     ap₂ (λ (n o : ℕ). take n (drop o s)) m (sym a) ∙ sym (part-is s t)
 
@@ -93,14 +95,38 @@ blob-found s t p h =
 nothing : (s : List ℕ) (t : ℕ) → (first (rows 0 s) accepted .number ≡ 0 → count s ≤ position s t) → blob s t ≡ []
 unfolding blob blobStart blobEnd present has
 nothing s t no-blob =
-    let a = pick-no (present s t) (offsetAt s (position s t)) 0 0 no-blob refl in
-    let b = pick-no (present s t) (offsetAt s (position s t) + blobLength s (position s t)) 0 0 no-blob refl in
+    let a = pick-no (present s t) (startOf s t) 0 0 no-blob refl in
+    let b = pick-no (present s t) (startOf s t + blobLength s (position s t)) 0 0 no-blob refl in
     ap₂ (λ (n o : ℕ). take (n - o) (drop o s)) (sym b) (sym a)
+
+-- no position has the type: the search ends at the count
+no-position : (s : List ℕ) (t : ℕ) → ((i : ℕ) → i < count s → typeAt s i ≡ t → ⊥) → position s t ≡ count s
+unfolding position ofType
+no-position s t h = none-fails (ofType s t) (count s) h
+
+-- what is found at the position that has the type, of the part that is handed back
+module _ (s : List ℕ) (t : ℕ) (p : Passes (rows 0 s)) (i : ℕ) (h : i < count s) (e : typeAt s i ≡ t) where
+  found-here : blob s t ≡ blobOf s t
+  found-here = blob-found s t p (has-position s (formed 0 s p) i t h e)
+
+  found : FoundBlob s t
+  found = found-blob s t (formed 0 s p) (has-position s (formed 0 s p) i t h e)
+
+  found-at : blob s t ≡ blobAt s i
+  found-at = found-here ∙ blob-at s (formed 0 s p) i t h e
+
+  found-long : length (blob s t) ≡ blobLength s i
+  found-long = ap length found-here ∙ found .length-is ∙ ap (blobLength s) (at-position s (formed 0 s p) i t h e)
+
+  found-opens : (big 4 (blob s t) 0 ≡ magicOf t) × (big 4 (blob s t) 4 ≡ length (blob s t))
+  found-opens = rw found-here (found .magic-is, found .states-length)
 
 pub lookups : Lookups
 lookups s t =
     record {
-      finds = λ p h. (found-blob s t (formed 0 s p) h, blob-found s t p h);
-      none = λ h. nothing s t (λ e. h);
+      finds = found-at s t;
+      long = found-long s t;
+      opens = found-opens s t;
+      none = λ h. nothing s t (λ e. omega (arith, no-position s t h));
       refused = λ n. nothing s t (λ e. absurd (n (passed (rows 0 s) accepted 0 (rows-unused 0 s) e)));
     }

@@ -6,8 +6,8 @@ use mathlib.Core.Path.{_≡_}
 use lib.ListN.{length, take, drop}
 use Rattle.refusals.specs.Ranges.{Range, range, lookup}
 use Rattle.refusals.specs.Refusals.{_<?_, _≡?_, _≢?_, _and_, _or_, Cond, pick, lowest, Row, row, over, first, accepted}
-use Rattle.layout.specs.SuperBlob.{superMagic, superHead, blobHead, requirementsMagic, entitlementsMagic, derEntitlementsMagic, launchConstraintMagic, blobWrapperMagic, magic, superLength, count, indexEnd, typeAt, offsetAt, blobMagic, blobLength}
-use Rattle.layout.specs.CodeDirectory.{directoryMagic}
+use Rattle.layout.specs.SuperBlob.{superMagic, superHead, blobHead, requirementsMagic, entitlementsMagic, derEntitlementsMagic, launchConstraintMagic, blobWrapperMagic, firstAlternate, lastAlternate, cmsType, magic, superLength, count, indexEnd, typeAt, offsetAt, blobMagic, blobLength}
+use Rattle.layout.specs.CodeDirectory.{directoryMagic, directoryType}
 use Rattle.superblob.specs.declared.Span.{Span}
 use Rattle.superblob.specs.declared.Test.{Test}
 use Rattle.superblob.specs.declared.Test.the-variants as test
@@ -33,13 +33,13 @@ mostBlobs = 64
 -- the known slot types, from and to, with the magic of each
 unfoldable pub slotMagics : List Range
 slotMagics =
-    range 0 0 directoryMagic
-    ∷ range 0x1000 0x1004 directoryMagic
+    range directoryType directoryType directoryMagic
+    ∷ range firstAlternate lastAlternate directoryMagic
     ∷ range 2 2 requirementsMagic
     ∷ range 5 5 entitlementsMagic
     ∷ range 7 7 derEntitlementsMagic
     ∷ range 8 11 launchConstraintMagic
-    ∷ range 0x10000 0x10000 blobWrapperMagic
+    ∷ range cmsType cmsType blobWrapperMagic
     ∷ []
 
 -- the magic that a slot type asks for; 0 where the type is not known
@@ -130,10 +130,10 @@ present s t = first (rows 0 s) accepted .number ≡? 0 and has s t
 
 -- where the blob of a type starts and ends; 0 and 0 where there is none
 unfoldable pub blobStart : List ℕ → ℕ → ℕ
-blobStart s t = pick (present s t) (offsetAt s (position s t)) 0
+blobStart s t = pick (present s t) (startOf s t) 0
 
 unfoldable pub blobEnd : List ℕ → ℕ → ℕ
-blobEnd s t = pick (present s t) (offsetAt s (position s t) + blobLength s (position s t)) 0
+blobEnd s t = pick (present s t) (startOf s t + blobLength s (position s t)) 0
 
 -- what a lookup hands back: the blob of a type, a part of the signature; empty where there is none
 unfoldable pub blob : List ℕ → ℕ → List ℕ

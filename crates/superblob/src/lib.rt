@@ -85,8 +85,7 @@ pub fn start_of(sig: &[u8], slot_type: u32) -> usize
     offset_at(sig, position_of(sig, slot_type as usize))
 }
 
-// The blob at a type's position of the index, its head included: for callers behind test 9, which has the SuperBlob well formed. Of other bytes
-// it is what the definition makes of them.
+// The blob at a type's position of the index, its head included: for callers behind test 9.
 pub fn blob_of<'a>(sig: &'a [u8], slot_type: u32) -> &'a [u8]
     ensures { λ r. ⌜ now r ≡ blobOf (now (sig .entry)) «slot_type» ⌝ }
 {

@@ -9,7 +9,8 @@ use borrow.Fn.Kinds.{endedOf}
 use Rattle.admission.specs.Input.{lent}
 use Rattle.admission.specs.Check.{Checked}
 use Rattle.admission.specs.Recheck.{recheckOf, Rechecked}
-use Rattle.trewizlow.proofs.Bytes.{BlobShown, blob-shown, DirectoryShown, directory-shown, HashShown, hash-shown}
+use Rattle.trewizlow.specs.Shown.{BlobShown, DirectoryShown, HashShown}
+use Rattle.trewizlow.proofs.Bytes.{blob-shown, directory-shown, hash-shown}
 use Rattle.trewizlow.proofs.trewizlow_check.Reads as check-reads
 use Rattle.trewizlow.proofs.trewizlow_check.Kinds as check-kinds
 use Rattle.trewizlow.proofs.trewizlow_recheck.Reads as recheck-reads

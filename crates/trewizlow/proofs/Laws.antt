@@ -4,18 +4,16 @@ use mathlib.Core.Bool.{true, false, cond}
 use mathlib.Core.List.{List}
 use mathlib.Core.Path.{_≡_, sym, ap, ap₂, _∙_}
 use native.Mathlib.Omega.{arith}
-use lib.ListN.{length, take, drop, replicate, length-drop}
+use lib.ListN.{length, drop, replicate, length-drop}
 use lib.Seq.{length-take-le}
 use Rattle.refusals.specs.declared.Answer.{Answer}
 use Rattle.refusals.specs.Refusals.{_≡?_}
 use Rattle.refusals.proofs.Conditions.{says}
-use Rattle.digest.specs.Hash.{digest}
-use Rattle.digest.specs.Sha256.{sha256}
 use Rattle.superblob.specs.declared.Span.{Span}
 use Rattle.superblob.specs.Rows.{Found, startOf, blobStart, blobEnd, blob}
 use Rattle.layout.specs.CodeDirectory.{directoryType}
 use Rattle.layout.specs.TrustCache.{cdhashLength}
-use Rattle.directory.specs.Rows.{directory}
+use Rattle.directory.specs.Rows.{directory, cdhash}
 use Rattle.trewizlow.specs.Interface.{readAnswer, readable, fieldsOf, noFields, directoryFields, hashWith, directoryHash}
 
 pub span-length : (s : List ℕ) (t : ℕ) (r : Span) → Found s t r → r .end - r .start ≡ length (blob s t)
@@ -41,7 +39,7 @@ module _ (s : List ℕ) (a : Answer) (e : a ≡ readAnswer s) where
   unfolding directoryFields
   fields-refused h = ap noFields e ∙ when-refused _ _ h
 
-  pub hash-read : a .number ≡ 0 → hashWith a (take cdhashLength (digest sha256 (directory s))) ≡ directoryHash s
+  pub hash-read : a .number ≡ 0 → hashWith a (cdhash (directory s)) ≡ directoryHash s
   unfolding directoryHash
   hash-read h = ap₂ hashWith e (when-read _ _ h)
 

@@ -3,16 +3,14 @@
 use Prim.Native.Nat.{ℕ}
 use mathlib.Core.Bool.{Bool, cond}
 use mathlib.Core.List.{List}
-use lib.ListN.{length, take, replicate}
-use Rattle.digest.specs.Hash.{digest}
-use Rattle.digest.specs.Sha256.{sha256}
+use lib.ListN.{length, replicate}
 use Rattle.refusals.specs.declared.Answer.{Answer}
 use Rattle.refusals.specs.Refusals.{_≡?_, holds, accepted, first}
 use Rattle.layout.specs.CodeDirectory.{directoryType, version, flags, hashOffset, identOffset, nSpecialSlots, nCodeSlots, codeLimit, hashSize, hashType, platform, pageSize}
 use Rattle.layout.specs.TrustCache.{cdhashLength}
 use Rattle.superblob.specs.Rows.{rows, startOf, blobStart, blob}
 use Rattle.directory.specs.Pages.{P}
-use Rattle.directory.specs.Rows.{directory, identLength, signatureRows}
+use Rattle.directory.specs.Rows.{directory, cdhash, identLength, signatureRows}
 use Rattle.trewizlow.specs.declared.BlobPart.{BlobPart}
 use Rattle.trewizlow.specs.declared.DirectoryFields.{DirectoryFields}
 use Rattle.trewizlow.specs.declared.DirectoryHash.{DirectoryHash}
@@ -95,4 +93,4 @@ hashWith a h = record { number = a .number; place = a .place; hash = h }
 
 -- the digest cut to 20 bytes where tests 1 to 18 pass, else zeros
 unfoldable pub directoryHash : List ℕ → DirectoryHash
-directoryHash s = hashWith (readAnswer s) (cond (readable s) (take cdhashLength (digest sha256 (directory s))) (replicate cdhashLength 0))
+directoryHash s = hashWith (readAnswer s) (cond (readable s) (cdhash (directory s)) (replicate cdhashLength 0))

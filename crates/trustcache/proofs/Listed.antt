@@ -12,7 +12,7 @@ use Rattle.trustcache.specs.declared.launch.Launch.{Launch}
 use Rattle.trustcache.specs.Rows.{formRows, hasHash, entryOf, lookupRows}
 use Rattle.trustcache.specs.Launch.{launchRows}
 use Rattle.trustcache.specs.Table.{cacheRows}
-use Rattle.trustcache.specs.Rules.{Listed}
+use Rattle.trustcache.specs.Rules.{Listed, ListedExactly}
 use Rattle.trustcache.proofs.Form.{cache-formed, formed-passes}
 use Rattle.trustcache.proofs.Constraints.{allowed, allowed-passes}
 use Rattle.trustcache.proofs.Lookup.{entry-has, entry-at}
@@ -23,7 +23,7 @@ entry-most c h = lowest-most (hasHash c h) (entryCount c)
 
 module _ (c : List ℕ) (h : ℕ) (facts : Launch) where
   -- where the tests pass, the entry that the search finds lists the hash
-  pub listed : Passes (cacheRows c h facts) → Listed c h facts (entryOf c h)
+  listed : Passes (cacheRows c h facts) → Listed c h facts (entryOf c h)
   unfolding cacheRows lookupRows
   listed p =
       let w = append-passes (formRows c) (lookupRows c h ++ launchRows (categoryAt c (entryOf c h)) facts) p in
@@ -38,7 +38,7 @@ module _ (c : List ℕ) (h : ℕ) (facts : Launch) where
       }
 
   -- the search finds the entry that lists the hash
-  pub entry-found : (entry : ℕ) → Listed c h facts entry → entryOf c h ≡ entry
+  entry-found : (entry : ℕ) → Listed c h facts entry → entryOf c h ≡ entry
   entry-found entry w = sym (entry-at c h entry (w .form) (w .below) (w .hash))
 
   found-passes : Listed c h facts (entryOf c h) → Passes (cacheRows c h facts)
@@ -48,6 +48,5 @@ module _ (c : List ℕ) (h : ℕ) (facts : Launch) where
       passes-append (formRows c) (lookupRows c h ++ launchRows (categoryAt c (entryOf c h)) facts) (formed-passes c (w .form))
       (passes-append (lookupRows c h) (launchRows (categoryAt c (entryOf c h)) facts) (omega (arith, w .below, w .type, a .0)) (a .1))
 
-  -- where an entry lists the hash, the tests pass
-  pub listed-passes : (entry : ℕ) → Listed c h facts entry → Passes (cacheRows c h facts)
-  listed-passes entry w = found-passes (rw (entry-found entry w) w)
+pub listed-exactly : ListedExactly
+listed-exactly c h facts = ((listed c h facts, found-passes c h facts), entry-found c h facts)

@@ -6,6 +6,7 @@ use lib.ListN.{length}
 use Rattle.endian.specs.Numbers.{big}
 use Rattle.layout.specs.CodeDirectory.{sha256Type}
 use Rattle.layout.specs.TrustCache.{versionTaken, cacheHead, entrySize, cdhashLength, cacheVersion, entryCount, hashAt, hashTypeAt, categoryAt}
+use Rattle.trustcache.specs.Launch.{constrainedCategory}
 use Rattle.refusals.specs.Refusals.{Cond, _<?_, _≤?_, _≡?_, _≢?_, _and_, _or_, pick, lowest, Row, row, over}
 
 -- LIMITS
@@ -16,7 +17,7 @@ mostEntries = 65536
 
 -- the highest constraint category
 abbrev pub highestCategory : ℕ
-highestCategory = 1
+highestCategory = constrainedCategory
 
 -- HASHES
 

@@ -2,14 +2,16 @@
 use Prim.Native.Nat.{ℕ, _+_, _*_, _<_, _≤_}
 use mathlib.Core.Bool.{true, _||_}
 use mathlib.Core.List.{List}
-use mathlib.Core.Logic.{_⊎_}
+use mathlib.Core.Logic.{_⊎_, _↔_}
 use mathlib.Core.Path.{_≡_}
 use lib.ListN.{length}
 use Rattle.layout.specs.CodeDirectory.{sha256Type}
 use Rattle.layout.specs.TrustCache.{versionTaken, cacheHead, entrySize, cacheVersion, entryCount, hashTypeAt, categoryAt}
+use Rattle.refusals.specs.Refusals.{Passes}
 use Rattle.trustcache.specs.declared.launch.Launch.{Launch}
-use Rattle.trustcache.specs.Rows.{mostEntries, hashNumber}
+use Rattle.trustcache.specs.Rows.{mostEntries, hashNumber, entryOf}
 use Rattle.trustcache.specs.Launch.{unconstrainedCategory, constrainedCategory, launchTypeAsked, validationAsked}
+use Rattle.trustcache.specs.Table.{cacheRows}
 
 -- the cache is well formed
 pub record CacheFormed (c : List ℕ) : Type 0 where
@@ -38,3 +40,8 @@ pub record Listed (c : List ℕ) (h : ℕ) (facts : Launch) (entry : ℕ) : Type
   pub hash : hashNumber c entry ≡ h
   pub type : hashTypeAt c entry ≡ sha256Type
   pub constraints : Allowed (categoryAt c entry) facts
+
+-- tests 24 to 30 pass exactly where the entry that the search finds is so listed, and no other entry is
+abbrev pub ListedExactly : Type 0
+ListedExactly = (c : List ℕ) (h : ℕ) (facts : Launch)
+    → (Passes (cacheRows c h facts) ↔ Listed c h facts (entryOf c h)) × ((entry : ℕ) → Listed c h facts entry → entryOf c h ≡ entry)

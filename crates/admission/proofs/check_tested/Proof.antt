@@ -28,14 +28,14 @@ tested-requires-2 c κs = search needs
 returns-3 : tie.Need-returns-3
 returns-3 c = matched-stops _ _ _ _ (c .before .before .before .before .before .before .before .before .before .before .longest-side .ensures) _ (c .before .before .before .before .before .before .before .before .before .tested .ensures) (c .before .before .before .before .before .before .before .if1 .left) _ (c .before .before .before .before .before .before .blob-of .ensures) _ (c .before .before .before .before .before .sizes-tested .ensures) (c .before .before .before .if2 .left) _ (c .before .before .tested2 .ensures) (c .if3 .taken)
 
-directory-hash-requires : tie.Need-directory-hash-requires
-directory-hash-requires c κs = search needs
+cdhash-requires : tie.Need-cdhash-requires
+cdhash-requires c κs = search needs
 
 tested-requires-3 : tie.Need-tested-requires-3
 tested-requires-3 c κs = search needs
 
 returns-4 : tie.Need-returns-4
-returns-4 c = matched-goes _ _ _ _ (c .before .before .before .before .before .before .before .before .before .before .before .before .longest-side .ensures) _ (c .before .before .before .before .before .before .before .before .before .before .before .tested .ensures) (c .before .before .before .before .before .before .before .before .before .if1 .left) _ (c .before .before .before .before .before .before .before .before .blob-of .ensures) _ (c .before .before .before .before .before .before .before .sizes-tested .ensures) (c .before .before .before .before .before .if2 .left) _ (c .before .before .before .before .tested2 .ensures) (c .before .before .if3 .left) _ _ (c .before .directory-hash .ensures) (c .tested3 .ensures)
+returns-4 c = matched-goes _ _ _ _ (c .before .before .before .before .before .before .before .before .before .before .before .before .longest-side .ensures) _ (c .before .before .before .before .before .before .before .before .before .before .before .tested .ensures) (c .before .before .before .before .before .before .before .before .before .if1 .left) _ (c .before .before .before .before .before .before .before .before .blob-of .ensures) _ (c .before .before .before .before .before .before .before .sizes-tested .ensures) (c .before .before .before .before .before .if2 .left) _ (c .before .before .before .before .tested2 .ensures) (c .before .before .if3 .left) _ _ (c .before .cdhash .ensures) (c .tested3 .ensures)
 
 pub check-tested-spec : {M : Type 1} → statement M
 check-tested-spec =
@@ -49,6 +49,6 @@ check-tested-spec =
     returns-2
     tested-requires-2
     returns-3
-    directory-hash-requires
+    cdhash-requires
     tested-requires-3
     returns-4)

@@ -1,11 +1,12 @@
 -- Each refusal is the first row that holds: the rows before it are the tests passed on the way.
-use mathlib.Core.Path.{_≡_, _∙_}
+use mathlib.Core.Path.{_≡_, refl, _∙_}
 use Prim.Native.Nat.{ℕ}
 use mathlib.Core.Logic.{_⊎_, inl, inr, ⊎-elim}
 use native.Mathlib.Omega.{arith}
 use Rattle.refusals.specs.Refusals.{accepted}
 use Rattle.refusals.proofs.Exact.{decides, passes}
 use Rattle.directory.specs.Rows.{fieldRows}
+use Rattle.directory.proofs.Versions.{version-known, version-unknown}
 use borrow.Author.Needs.{needs}
 use Rattle.directory.proofs.fields_tested.Statement.{statement}
 use Rattle.directory.proofs.fields_tested.Tie as tie
@@ -31,14 +32,18 @@ answer-requires-2 c κs = search needs
 
 returns-2 : tie.Need-returns-2
 unfolding fieldRows
-returns-2 c = c .answer2 .ensures ∙ decides _ accepted _ _ (omega arith)
+returns-2 c =
+    let unknown = version-unknown _ _ (c .before .before .head-of .ensures .0) (omega arith) in
+    c .answer2 .ensures ∙ decides _ accepted _ _ ((omega arith, unknown), refl)
 
 answer-requires-3 : tie.Need-answer-requires-3
 answer-requires-3 c κs = search needs
 
 returns-3 : tie.Need-returns-3
 unfolding fieldRows
-returns-3 c = c .answer3 .ensures ∙ decides _ accepted _ _ (omega arith)
+returns-3 c =
+    let known = version-known _ _ (c .before .before .before .head-of .ensures .0) (c .before .before .if2 .left) in
+    c .answer3 .ensures ∙ decides _ accepted _ _ (omega arith)
 
 read-requires : tie.Need-read-requires
 read-requires c κs = search needs
@@ -48,14 +53,18 @@ answer-requires-4 c κs = search needs
 
 returns-4 : tie.Need-returns-4
 unfolding fieldRows
-returns-4 c = c .answer4 .ensures ∙ decides _ accepted _ _ (omega arith)
+returns-4 c =
+    let known = version-known _ _ (c .before .before .before .before .before .before .head-of .ensures .0) (c .before .before .before .before .before .if2 .left) in
+    c .answer4 .ensures ∙ decides _ accepted _ _ (omega arith)
 
 answer-requires-5 : tie.Need-answer-requires-5
 answer-requires-5 c κs = search needs
 
 returns-5 : tie.Need-returns-5
 unfolding fieldRows
-returns-5 c = c .answer5 .ensures ∙ decides _ accepted _ _ (omega arith)
+returns-5 c =
+    let known = version-known _ _ (c .before .before .before .before .before .before .before .before .head-of .ensures .0) (c .before .before .before .before .before .before .before .if2 .left) in
+    c .answer5 .ensures ∙ decides _ accepted _ _ (omega arith)
 
 answer-requires-6 : tie.Need-answer-requires-6
 answer-requires-6 c κs = search needs
@@ -63,6 +72,7 @@ answer-requires-6 c κs = search needs
 returns-6 : tie.Need-returns-6
 unfolding fieldRows
 returns-6 c =
+    let known = version-known _ _ (c .before .before .before .before .before .before .before .before .before .head-of .ensures .0) (c .before .before .before .before .before .before .before .before .if2 .left) in
     let k = none-of _ (c .before .match .rest .1) in
     c .answer6 .ensures ∙ decides _ accepted _ _ (omega arith)
 
@@ -71,21 +81,27 @@ answer-requires-7 c κs = search needs
 
 returns-7 : tie.Need-returns-7
 unfolding fieldRows
-returns-7 c = by-shift _ (λ e. c .answer7 .ensures ∙ passes _ accepted (omega arith)) (λ e. c .answer7 .ensures ∙ passes _ accepted (omega arith)) (λ e. c .answer7 .ensures ∙ passes _ accepted (omega arith)) (c .before .before .before .match .keys1)
+returns-7 c =
+    let known = version-known _ _ (c .before .before .before .before .before .before .before .before .before .before .before .head-of .ensures .0) (c .before .before .before .before .before .before .before .before .before .before .if2 .left) in
+    by-shift _ (λ e. c .answer7 .ensures ∙ passes _ accepted (omega arith)) (λ e. c .answer7 .ensures ∙ passes _ accepted (omega arith)) (λ e. c .answer7 .ensures ∙ passes _ accepted (omega arith)) (c .before .before .before .match .keys1)
 
 answer-requires-8 : tie.Need-answer-requires-8
 answer-requires-8 c κs = search needs
 
 returns-8 : tie.Need-returns-8
 unfolding fieldRows
-returns-8 c = by-shift _ (λ e. c .answer8 .ensures ∙ decides _ accepted _ _ (omega arith)) (λ e. c .answer8 .ensures ∙ decides _ accepted _ _ (omega arith)) (λ e. c .answer8 .ensures ∙ decides _ accepted _ _ (omega arith)) (c .before .before .before .before .before .match .keys1)
+returns-8 c =
+    let known = version-known _ _ (c .before .before .before .before .before .before .before .before .before .before .before .before .before .head-of .ensures .0) (c .before .before .before .before .before .before .before .before .before .before .before .before .if2 .left) in
+    by-shift _ (λ e. c .answer8 .ensures ∙ decides _ accepted _ _ (omega arith)) (λ e. c .answer8 .ensures ∙ decides _ accepted _ _ (omega arith)) (λ e. c .answer8 .ensures ∙ decides _ accepted _ _ (omega arith)) (c .before .before .before .before .before .match .keys1)
 
 answer-requires-9 : tie.Need-answer-requires-9
 answer-requires-9 c κs = search needs
 
 returns-9 : tie.Need-returns-9
 unfolding fieldRows
-returns-9 c = by-shift _ (λ e. c .answer9 .ensures ∙ passes _ accepted (omega arith)) (λ e. c .answer9 .ensures ∙ passes _ accepted (omega arith)) (λ e. c .answer9 .ensures ∙ passes _ accepted (omega arith)) (c .before .before .before .before .before .match .keys1)
+returns-9 c =
+    let known = version-known _ _ (c .before .before .before .before .before .before .before .before .before .before .before .before .before .head-of .ensures .0) (c .before .before .before .before .before .before .before .before .before .before .before .before .if2 .left) in
+    by-shift _ (λ e. c .answer9 .ensures ∙ passes _ accepted (omega arith)) (λ e. c .answer9 .ensures ∙ passes _ accepted (omega arith)) (λ e. c .answer9 .ensures ∙ passes _ accepted (omega arith)) (c .before .before .before .before .before .match .keys1)
 
 pub fields-tested-spec : {M : Type 1} → statement M
 fields-tested-spec =

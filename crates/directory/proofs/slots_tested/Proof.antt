@@ -40,6 +40,9 @@ returns-2 : tie.Need-returns-2
 unfolding slotRows
 returns-2 c = c .answer2 .ensures ∙ decides _ accepted _ _ (omega arith)
 
+cast-if3 : tie.Need-cast-if3
+cast-if3 c = search needs
+
 answer-requires-3 : tie.Need-answer-requires-3
 answer-requires-3 c κs = search needs
 
@@ -121,6 +124,7 @@ slots-tested-spec =
     returns
     answer-requires-2
     returns-2
+    cast-if3
     answer-requires-3
     returns-3
     special-outside-requires

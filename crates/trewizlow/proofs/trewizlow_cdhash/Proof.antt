@@ -2,6 +2,7 @@
 use mathlib.Core.Path.{ap, _∙_}
 use native.Mathlib.Omega.{arith}
 use borrow.Author.Needs.{needs}
+use Rattle.directory.specs.Rows.{cdhash}
 use Rattle.trewizlow.specs.Interface.{hashWith}
 use Rattle.trewizlow.proofs.Laws.{hash-read, hash-refused}
 use Rattle.trewizlow.proofs.trewizlow_cdhash.Statement.{statement}
@@ -16,18 +17,15 @@ returns c = hash-refused _ _ (c .before .before .tested .ensures) (omega arith)
 blob-of-requires : tie.Need-blob-of-requires
 blob-of-requires c κs = search needs
 
-digest-requires : tie.Need-digest-requires
-digest-requires c κs = search needs
-
-cut-requires : tie.Need-cut-requires
-cut-requires c κs = search needs
+cdhash-requires : tie.Need-cdhash-requires
+cdhash-requires c κs = search needs
 
 returns-2 : tie.Need-returns-2
 returns-2 c =
-    ap (hashWith _) (c .cut .ensures ∙ rw (c .before .digest .ensures, c .before .before .blob-of .ensures))
-    ∙ hash-read _ _ (c .before .before .before .before .before .tested .ensures) (omega arith)
+    ap (hashWith _) (c .cdhash .ensures ∙ ap cdhash (c .before .blob-of .ensures))
+    ∙ hash-read _ _ (c .before .before .before .before .tested .ensures) (omega arith)
 
 pub trewizlow-cdhash-spec : {M : Type 1} → statement M
 trewizlow-cdhash-spec =
     tie.close
-    (tie.spec tested-requires returns blob-of-requires digest-requires cut-requires returns-2)
+    (tie.spec tested-requires returns blob-of-requires cdhash-requires returns-2)
