@@ -19,9 +19,12 @@ use Rattle.directory.specs.Rows.{fieldRows, slotRows, blobRows, directoryRows, 
 use Rattle.slots.specs.Slots.{specialRows}
 use Rattle.trustcache.specs.Rows.{formRows, lookupRows}
 use Rattle.trustcache.specs.Launch.{launchRows}
+use Rattle.trustcache.proofs.Bytes.{hash-less, hash-equal}
+use Rattle.trustcache.proofs.Constraints.{self-plainly, parent-plainly}
 use Rattle.trustcache.specs.Table.{cacheRows}
 use Rattle.pages.specs.Pages.{pageCount, pageOf, rangeRows}
 use Rattle.pages.specs.Marks.{agrees, markOf, markRows, badRows}
+use Rattle.pages.proofs.Pages.{pageBytes-power}
 use Rattle.pages.proofs.Marking.{agrees-equal, marks-at, marks-length}
 use Rattle.admission.specs.Input.{Lent, beside, pageBytesOf, limitOf, slotsOf, marksOf}
 use Rattle.admission.specs.Check.{imageRows, laterRows, countRows, checkRows, entryFor, checkTable, checkAnswer, verdictOf, CheckOutcome, checkOf}
@@ -131,10 +134,18 @@ recheck2 s c marks =
 pub demand2 : Demand2
 demand2 =
     record {
-      over-positions = over-plainly;
-      several-numbers = among-plainly;
-      agrees-exactly = agrees-equal;
-      code-slots = slot-is;
+      plainly =
+          record {
+            over-positions = over-plainly;
+            several-numbers = among-plainly;
+            page-size = pageBytes-power;
+            agrees-exactly = agrees-equal;
+            code-slots = slot-is;
+            hash-order = hash-less;
+            hash-bytes = hash-equal;
+            self-constraint = self-plainly;
+            parent-constraint = parent-plainly;
+          };
       check = λ x marks v after e. subst (λ (o : CheckOutcome). Check2 x marks (o .verdict) (o .marks)) (sym e) (check2 x marks);
       recheck = λ s c marks a after e. subst (λ (o : CallOutcome). Recheck2 s c marks (o .answer) (o .marks)) (sym e) (recheck2 s c marks);
     }

@@ -6,8 +6,6 @@ use mathlib.Core.Path.{_≡_, sym, _∙_}
 use mathlib.Core.Bool.{false}
 use native.Mathlib.Omega.{arith}
 use lib.ListN.{length}
-use Rattle.digest.specs.Hash.{digest}
-use Rattle.digest.specs.Sha256.{sha256}
 use Rattle.refusals.specs.Refusals.{Passes}
 use Rattle.refusals.proofs.Conditions.{said}
 use Rattle.refusals.proofs.Positions.{lowest-below, none-fails}
@@ -16,7 +14,7 @@ use Rattle.pages.specs.Pages.{pageCount, pageOf}
 use Rattle.pages.specs.Marks.{slotAt, marksOf, differs, badRows}
 use Rattle.pages.proofs.Marking.{mark-exact, mark-small, marks-length, marks-at}
 use Rattle.directory.specs.Pages.{P, pages}
-use Rattle.directory.specs.Rows.{codeSlot, codeSlots}
+use Rattle.directory.specs.Rows.{codeSlots}
 use Rattle.directory.proofs.Slots.{codeSlot-part}
 use Rattle.admission.specs.Admissible.{PagesAgree}
 use Rattle.admission.specs.Demand2.{CodeSlotsAre}

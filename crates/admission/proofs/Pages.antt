@@ -11,7 +11,7 @@ use borrow.Author.Tests.{eqb-true}
 use Rattle.refusals.specs.declared.Answer.{Answer}
 use Rattle.refusals.specs.Refusals.{accepted, refuse, Passes}
 use Rattle.pages.specs.Pages.{pageCount}
-use Rattle.pages.specs.Marks.{agrees, markOf, judged}
+use Rattle.pages.specs.Marks.{agrees, markOf, differs, judged}
 use Rattle.pages.proofs.Marking.{marks-length, marks-at}
 use Rattle.pages.proofs.Tests.{judged-bad, bad-judged, judged-good, good-judged}
 use Rattle.pages.proofs.Spliced.{page-unmet, page-lent}
@@ -50,23 +50,25 @@ module _ (s : List ℕ) (page : ℕ → List ℕ) (marks : List ℕ) (long : len
       sym (judged-good marks 0 (λ k l e. let u : k < pageCount (pageBytesOf s) (limitOf s) = omega arith in agrees-not-one _ (h k u) (sym (mark k u) ∙ e)))
 
   lowest-differs : (p : ℕ) → judged marks 0 ≡ refuse 31 p → LowestDiffers s page p
+  unfolding differs
   lowest-differs p e =
       let l = bad-judged marks 0 p (sym e) in
       let u : p < pageCount (pageBytesOf s) (limitOf s) = omega (arith, l .here) in
       record {
         here = u;
-        differs = one-differs _ (sym (mark p u) ∙ l .bad);
-        before = λ k h. not-one-agrees _ (λ q. l .before k h (mark k (omega arith) ∙ q));
+        differs = one-differs _ (sym (mark p u) ∙ l .here);
+        before = λ k h. not-one-agrees _ (λ q. l .not-before k h (mark k (omega arith) ∙ q));
       }
 
   differs-lowest : (p : ℕ) → LowestDiffers s page p → judged marks 0 ≡ refuse 31 p
+  unfolding differs
   differs-lowest p l =
       sym
       (judged-bad marks 0 p
       (record {
-        here = omega (arith, l .here);
-        bad = mark p (l .here) ∙ ap (λ (b : Bool). cond {A = ℕ} b 0 1) (l .differs);
-        before = λ k h q. agrees-not-one _ (l .before k h) (sym (mark k (omega (arith, l .here))) ∙ q);
+        below = omega (arith, l .here);
+        here = mark p (l .here) ∙ ap (λ (b : Bool). cond {A = ℕ} b 0 1) (l .differs);
+        not-before = λ k h q. agrees-not-one _ (l .before k h) (sym (mark k (omega (arith, l .here))) ∙ q);
       }))
 
   answers-judged : AnswersFor s page (judged marks 0)

@@ -10,8 +10,10 @@ use Rattle.refusals.specs.declared.Answer.{Answer}
 use Rattle.refusals.specs.Refusals.{Decides, Passes, refuse, OverPlainly, AmongPlainly}
 use Rattle.layout.specs.CodeDirectory.{nCodeSlots}
 use Rattle.directory.specs.Rows.{codeSlot, codeSlots}
-use Rattle.pages.specs.Pages.{pageCount, pageOf}
+use Rattle.pages.specs.Pages.{PagePower, pageCount, pageOf}
 use Rattle.pages.specs.Marks.{slotAt, badRows, agrees, AgreesExactly}
+use Rattle.trustcache.specs.Bytes.{HashLess, HashEqual}
+use Rattle.trustcache.specs.Launch.{SelfPlainly, ParentPlainly}
 use Rattle.admission.specs.declared.Verdict.{Verdict}
 use Rattle.admission.specs.Input.{Lent, pageBytesOf, limitOf, slotsOf}
 use Rattle.admission.specs.Check.{Checked, checkTable, verdictOf}
@@ -51,12 +53,24 @@ pub record Recheck2 (s : List ℕ) (c : Call) (marks : List ℕ) (a : Answer) (a
 abbrev pub CodeSlotsAre : Type 0
 CodeSlotsAre = (d : List ℕ) (i : ℕ) → i < nCodeSlots d → codeSlot d i ≡ slotAt (codeSlots d) i
 
-pub record Demand2 : Type 0 where
+-- how the rows read in plain words
+pub record Plainly : Type 0 where
   -- a test over positions holds with the lowest position at which its condition holds, and one with several numbers with the lowest fault
   pub over-positions : OverPlainly
   pub several-numbers : AmongPlainly
+  -- P is 2 to the pageSize field
+  pub page-size : PagePower
   -- a page agrees with its slot exactly when the slot holds its digest
   pub agrees-exactly : AgreesExactly
   pub code-slots : CodeSlotsAre
+  -- hashes are ordered by their bytes, the first byte first, and are equal where their bytes are
+  pub hash-order : HashLess
+  pub hash-bytes : HashEqual
+  -- the launch constraints
+  pub self-constraint : SelfPlainly
+  pub parent-constraint : ParentPlainly
+
+pub record Demand2 : Type 0 where
+  pub plainly : Plainly
   pub check : (x : Lent) (marks : List ℕ) (v : Verdict) (after : List ℕ) → Checked x marks v after → Check2 x marks v after
   pub recheck : (s : List ℕ) (c : Call) (marks : List ℕ) (a : Answer) (after : List ℕ) → Rechecked s c marks a after → Recheck2 s c marks a after

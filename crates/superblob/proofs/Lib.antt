@@ -3,3 +3,4 @@ pub mod Numbers
 pub mod Formed
 pub mod Lookup
 pub mod Spans
+pub mod Contracts

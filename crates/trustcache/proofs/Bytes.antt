@@ -1,5 +1,5 @@
 -- Numbers of n bytes, the first the most significant, are ordered as the bytes are: what decides is the first byte that differs.
-use Prim.Native.Nat.{ℕ, zero, suc, _+_, _*_, _<_}
+use Prim.Native.Nat.{ℕ, zero, suc, _+_, _*_, _<_, _≤_}
 use mathlib.Core.Bool.{Bool, true, false}
 use mathlib.Core.List.{List, [], _∷_}
 use mathlib.Core.Logic.{⊎-elim}
@@ -14,7 +14,6 @@ use Rattle.endian.specs.Numbers.{big}
 use Rattle.endian.proofs.Numbers.{big-same}
 use Rattle.layout.specs.TrustCache.{cacheHead, entrySize, cdhashLength, entryCount, hashAt}
 use Rattle.trustcache.specs.Rows.{asNumber, hashNumber}
-use Rattle.trustcache.specs.Rules.{CacheFormed}
 use Rattle.trustcache.specs.Bytes.{AllBytes, FirstLess, HashLess, HashEqual}
 
 -- one byte more
@@ -77,12 +76,12 @@ hash-bytes c i h =
     let start = cacheHead + entrySize * i in
     take-bytes cdhashLength (drop start c) (λ k. omega (arith, getD-drop start c k 0, h (start + k)))
 
--- an entry of a well-formed cache has a whole hash
-hash-length : (c : List ℕ) (i : ℕ) → CacheFormed c → i < entryCount c → length (hashAt c i) ≡ cdhashLength
+-- an entry of a cache that holds all its entries has a whole hash
+hash-length : (c : List ℕ) (i : ℕ) → cacheHead + entrySize * entryCount c ≤ length c → i < entryCount c → length (hashAt c i) ≡ cdhashLength
 unfolding hashAt
 hash-length c i f l =
     let start = cacheHead + entrySize * i in
-    length-take-le cdhashLength (drop start c) (omega (arith, length-drop start c, f .whole))
+    length-take-le cdhashLength (drop start c) (omega (arith, length-drop start c))
 
 pub hash-less : HashLess
 unfolding hashNumber
@@ -94,7 +93,7 @@ hash-less c i j h =
 
 pub hash-equal : HashEqual
 unfolding hashNumber
-hash-equal c i hash h g f l n =
+hash-equal c i hash h g n f l =
     let m = hash-length c i f l in
     let same = equal-bytes (hashAt c i) hash (hash-bytes c i h) g cdhashLength in
     ((λ e. ext-getD 0 (hashAt c i) hash (m ∙ sym n) (λ k u. same e k (omega arith))), λ e. ap asNumber e)

@@ -1,12 +1,11 @@
 -- What the order and the equality of hashes as numbers say of their bytes.
-use Prim.Native.Nat.{ℕ, _<_}
+use Prim.Native.Nat.{ℕ, _+_, _*_, _<_, _≤_}
 use mathlib.Core.List.{List}
 use mathlib.Core.Logic.{_↔_}
 use mathlib.Core.Path.{_≡_}
 use lib.ListN.{length, getD}
-use Rattle.layout.specs.TrustCache.{cdhashLength, entryCount, hashAt}
+use Rattle.layout.specs.TrustCache.{cacheHead, entrySize, cdhashLength, entryCount, hashAt}
 use Rattle.trustcache.specs.Rows.{asNumber, hashNumber}
-use Rattle.trustcache.specs.Rules.{CacheFormed}
 
 -- every element is a byte
 abbrev pub AllBytes : List ℕ → Type 0
@@ -25,7 +24,8 @@ abbrev pub HashLess : Type 0
 HashLess = (c : List ℕ) (i j : ℕ) → AllBytes c
     → (hashNumber c i < hashNumber c j) ↔ ((k : ℕ) × FirstLess cdhashLength (hashAt c i) (hashAt c j) k)
 
--- an entry of a well-formed cache has a hash exactly when it has its 20 bytes
+-- an entry of a cache that holds all its entries has a hash exactly when it has its 20 bytes
 abbrev pub HashEqual : Type 0
-HashEqual = (c : List ℕ) (i : ℕ) (hash : List ℕ) → AllBytes c → AllBytes hash → CacheFormed c → i < entryCount c → length hash ≡ cdhashLength
+HashEqual = (c : List ℕ) (i : ℕ) (hash : List ℕ) → AllBytes c → AllBytes hash → length hash ≡ cdhashLength
+    → cacheHead + entrySize * entryCount c ≤ length c → i < entryCount c
     → (hashNumber c i ≡ asNumber hash) ↔ (hashAt c i ≡ hash)
