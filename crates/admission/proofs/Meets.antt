@@ -51,8 +51,8 @@ module _ (s : List ℕ) (start size i : ℕ) where
 
 -- so the pages met are those that share a byte with the range
 pub meets-shared : Meets
-meets-shared s start size i p h u =
-    let e = meets-exactly (pageBytesOf s) (limitOf s) start size i (fits (directory s) (signature-exactly 0 s .0 p .formed)) h u in
+meets-shared s start size i p h =
+    let e = meets-exactly (pageBytesOf s) (limitOf s) start size i (fits (directory s) (signature-exactly 0 s .0 p .formed)) h in
     ((λ m. e .0 (met s start size i m)), λ k. ap₂ _&&_ (le-leb _ _ (e .1 k .0)) (lt-ltb _ _ (e .1 k .1)))
 
 -- MARKS PUT IN

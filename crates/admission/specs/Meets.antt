@@ -1,5 +1,5 @@
 -- The pages that a range meets, by a signature, and what a call is lent of them.
-use Prim.Native.Nat.{ℕ, _+_, _-_, _<_, _≤_}
+use Prim.Native.Nat.{ℕ, _+_, _-_, _≤_}
 use mathlib.Core.Bool.{Bool, true, _&&_}
 use mathlib.Core.List.{List}
 use mathlib.Core.Logic.{_↔_}
@@ -7,7 +7,7 @@ use mathlib.Core.Path.{_≡_}
 use lib.Dec.{ltb, leb}
 use Rattle.refusals.specs.Refusals.{Passes}
 use Rattle.directory.specs.Rows.{signatureRows}
-use Rattle.pages.specs.Pages.{pageCount, pageStart, pageEnd, part, metFirst, metEnd, Shared}
+use Rattle.pages.specs.Pages.{pageStart, pageEnd, part, metFirst, metEnd, Shared}
 use Rattle.admission.specs.Input.{pageBytesOf, limitOf}
 use Rattle.admission.specs.Recheck.{Call, recheckOf}
 
@@ -28,6 +28,6 @@ lentPage s (recheckOf start size new) i =
 
 -- where tests 1 to 18 pass, a range below the code limit meets page i exactly when it shares a byte with it
 abbrev pub Meets : Type 0
-Meets = (s : List ℕ) (start size i : ℕ) → Passes (signatureRows 0 s) → start + size ≤ limitOf s → i < pageCount (pageBytesOf s) (limitOf s)
+Meets = (s : List ℕ) (start size i : ℕ) → Passes (signatureRows 0 s) → start + size ≤ limitOf s
     → (meets s start size i ≡ true)
     ↔ ((k : ℕ) × Shared (pageBytesOf s) (limitOf s) start size i k)

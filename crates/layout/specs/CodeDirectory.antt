@@ -28,6 +28,13 @@ slotWidth = 32
 abbrev pub versionEnd : ℕ
 versionEnd = 12
 
+-- the special slots of the two side files (CSSLOT_INFOSLOT, CSSLOT_RESOURCEDIR)
+abbrev pub infoSlot : ℕ
+infoSlot = 1
+
+abbrev pub resourcesSlot : ℕ
+resourcesSlot = 3
+
 -- THE FIELDS
 
 unfoldable pub version : List ℕ → ℕ

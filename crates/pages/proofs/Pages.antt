@@ -209,16 +209,16 @@ within p limit first n h u =
     }
 
 -- the pages from metFirst to before metEnd are just those that share a byte with the range
-pub meets-exactly : (p limit start size i : ℕ) → Fit p limit → start + size ≤ limit → i < pageCount p limit
+pub meets-exactly : (p limit start size i : ℕ) → Fit p limit → start + size ≤ limit
     → ((metFirst p start size ≤ i) × (i < metEnd p start size)) ↔ ((k : ℕ) × Shared p limit start size i k)
-meets-exactly p limit start zero i f h u = (λ m. absurd (no-page m), λ w. absurd (no-byte w))
+meets-exactly p limit start zero i f h = (λ m. absurd (no-page m), λ w. absurd (no-byte w))
   where
     no-page : ((metFirst p start 0 ≤ i) × (i < metEnd p start 0)) → ⊥
     no-page m = let q = rw empty-end at (m .1) in omega arith
 
     no-byte : ((k : ℕ) × Shared p limit start 0 i k) → ⊥
     no-byte w = omega arith
-meets-exactly p limit start (suc n) i f h u = (there, back)
+meets-exactly p limit start (suc n) i f h = (there, back)
   where
     pos : 0 < p
     pos = fit-pos f (λ e. omega arith)
@@ -229,7 +229,7 @@ meets-exactly p limit start (suc n) i f h u = (there, back)
         let b = rw (range-end p start (suc n) (omega arith)) at (m .1) in
         let x : start < (i + 1) * p = div-lt-iff-lt-mul {k = p} {x = start} {y = i + 1} pos .0 (omega arith) in
         let y : i * p ≤ start + (suc n - 1) = le-div-iff-mul-le {k = p} {x = i} {y = start + (suc n - 1)} pos .0 (omega arith) in
-        let z : p * i < limit = count-of p limit i u in
+        let z : p * i < limit = count-of p limit i (omega (arith, met-count p limit start (suc n) f h, m .1)) in
         (max start (p * i), ((omega arith, omega (arith, mul-comm i p)), (omega arith, omega (arith, pos, mul-comm (i + 1) p))))
 
     back : ((k : ℕ) × Shared p limit start (suc n) i k) → ((metFirst p start (suc n) ≤ i) × (i < metEnd p start (suc n)))

@@ -9,6 +9,7 @@ use Rattle.digest.specs.Hash.{digest}
 use Rattle.digest.specs.Sha256.{sha256}
 use Rattle.refusals.specs.Refusals.{Passes}
 use Rattle.layout.specs.SuperBlob.{count, typeAt}
+use Rattle.layout.specs.CodeDirectory.{infoSlot, resourcesSlot}
 use Rattle.superblob.specs.Rows.{blobAt}
 use Rattle.superblob.specs.Formed.{Formed}
 use Rattle.directory.specs.Rows.{mostSpecialSlots, specialSlot}
@@ -25,9 +26,9 @@ Empty d k = (j : ℕ) → getD (specialSlot d k) j 0 ≡ 0
 -- the thing that slot k covers is there, and b is its bytes: a blob is there where its type stands in the index. Types 4 and 6, of which nothing can
 -- be there, stand in no index that is well formed
 pub data Thing (s : List ℕ) (x : Sides) : ℕ → List ℕ → Type 0 where
-  info-plist : x .infoThere ≡ true → Thing s x 1 (x .info)
-  code-resources : x .resourcesThere ≡ true → Thing s x 3 (x .resources)
-  blob-of : {k : ℕ} (i : ℕ) → (k ≡ 1 → ⊥) → (k ≡ 3 → ⊥) → i < count s → typeAt s i ≡ k → Thing s x k (blobAt s i)
+  info-plist : x .infoThere ≡ true → Thing s x infoSlot (x .info)
+  code-resources : x .resourcesThere ≡ true → Thing s x resourcesSlot (x .resources)
+  blob-of : {k : ℕ} (i : ℕ) → (k ≡ infoSlot → ⊥) → (k ≡ resourcesSlot → ⊥) → i < count s → typeAt s i ≡ k → Thing s x k (blobAt s i)
 
 -- slot k: filled with the digest of the thing that is there, or empty with nothing there
 abbrev pub Matches : List ℕ → List ℕ → Sides → ℕ → Type 0

@@ -8,6 +8,7 @@ use Rattle.digest.specs.Hash.{digest}
 use Rattle.digest.specs.Sha256.{sha256}
 use Rattle.digest.specs.Same.{same}
 use Rattle.refusals.specs.Refusals.{holds, Row, among}
+use Rattle.layout.specs.CodeDirectory.{infoSlot, resourcesSlot}
 use Rattle.superblob.specs.Rows.{has, blobOf}
 use Rattle.directory.specs.Rows.{mostSpecialSlots, specialSlot}
 
@@ -40,11 +41,11 @@ nothing k = eqb k 4 || eqb k 6
 
 -- the thing of slot k is there: of 1 the Info.plist, of 3 the CodeResources, of any other the blob of type k, where the index has the type
 unfoldable pub there : List ℕ → Sides → ℕ → Bool
-there s x k = cond (eqb k 1) (x .infoThere) (cond (eqb k 3) (x .resourcesThere) (not (nothing k) && holds (has s k)))
+there s x k = cond (eqb k infoSlot) (x .infoThere) (cond (eqb k resourcesSlot) (x .resourcesThere) (not (nothing k) && holds (has s k)))
 
 -- its bytes; a blob's with its head
 unfoldable pub thing : List ℕ → Sides → ℕ → List ℕ
-thing s x k = cond (eqb k 1) (x .info) (cond (eqb k 3) (x .resources) (blobOf s k))
+thing s x k = cond (eqb k infoSlot) (x .info) (cond (eqb k resourcesSlot) (x .resources) (blobOf s k))
 
 -- THE TEST
 
