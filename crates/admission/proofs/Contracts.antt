@@ -10,6 +10,7 @@ use Rattle.admission.specs.Check.{Checked}
 use Rattle.admission.specs.Recheck.{recheckOf, Rechecked}
 use Rattle.admission.proofs.check.Reads as check-reads
 use Rattle.admission.proofs.check.Kinds as check-kinds
+use Rattle.admission.proofs.check_tested.Reads as tested-reads
 use Rattle.admission.proofs.recheck.Reads as recheck-reads
 use Rattle.admission.proofs.recheck.Kinds as recheck-kinds
 
@@ -34,3 +35,7 @@ module _ (κs : Lfts 3) (a : ArgsD Rattle.admission.proofs.recheck.sign
       → recheck-reads.Learnt κs a r e
       → Rechecked (now (a .0)) (recheckOf (a .1 .0) (a .1 .1 .0) (now (a .1 .1 .1 .0))) (now (a .1 .1 .1 .1 .0)) r (now (e .1 .1 .1 .1 .0))
   recheck-says r e h = h
+
+-- TESTS 1 TO 30 by themselves ask nothing either
+pub tested-asks : (κs : Lfts 4) (a : ArgsD Rattle.admission.proofs.check_tested.signature κs) → tested-reads.Asked κs a
+tested-asks κs a = tt

@@ -6,8 +6,15 @@ use mathlib.Core.List.{List, _++_}
 use mathlib.Core.Logic.{_⊎_, ⊎-elim}
 use mathlib.Core.Path.{_≡_, refl, sym, ap, subst, _∙_}
 use lib.Dec.{eqb}
-use lib.ListN.{length, getD}
+use native.Mathlib.Omega.{arith}
+use lib.ListN.{length, getD, take}
+use lib.Seq.{length-take-le}
 use borrow.Author.Tests.{eqb-true}
+use Rattle.endian.proofs.Numbers.{take-small}
+use Rattle.digest.specs.Hash.{digest}
+use Rattle.digest.specs.Sha256.{sha256}
+use Rattle.digest.proofs.Digests.{digest-small, digest-length}
+use Rattle.layout.specs.TrustCache.{cdhashLength}
 use Rattle.refusals.specs.declared.Answer.{Answer}
 use Rattle.refusals.specs.Refusals.{_≡?_, holds, Row, refuse, accepted, first, Passes}
 use Rattle.refusals.proofs.Conditions.{says}
@@ -15,7 +22,7 @@ use Rattle.refusals.proofs.Exact.{Unused, Distinct, passes, passed, exact}
 use Rattle.refusals.proofs.Plain.{over-plainly, among-plainly}
 use Rattle.refusals.proofs.Joined.{first-append}
 use Rattle.superblob.specs.Rows.{headRows, indexRows, rows}
-use Rattle.directory.specs.Rows.{fieldRows, slotRows, blobRows, directoryRows, signatureRows}
+use Rattle.directory.specs.Rows.{cdhash, fieldRows, slotRows, blobRows, directoryRows, signatureRows}
 use Rattle.slots.specs.Slots.{specialRows}
 use Rattle.trustcache.specs.Rows.{formRows, lookupRows}
 use Rattle.trustcache.specs.Launch.{launchRows}
@@ -30,11 +37,19 @@ use Rattle.admission.specs.Input.{Lent, beside, pageBytesOf, limitOf, sl
 use Rattle.admission.specs.Check.{imageRows, laterRows, countRows, checkRows, entryFor, checkTable, checkAnswer, verdictOf, CheckOutcome, checkOf}
 use Rattle.admission.specs.Recheck.{Call, recheckOf, inputRows, callRows, remarked, callAnswer, callMarks, CallOutcome, callOf}
 use Rattle.admission.specs.Demand3.{answerOf}
-use Rattle.admission.specs.Demand2.{Check2, Recheck2, Demand2}
+use Rattle.admission.specs.Demand2.{Check2, Recheck2, EntryHash, Demand2}
 use Rattle.admission.proofs.Accepted.{admissible-exactly, may-entry}
 use Rattle.admission.proofs.Meets.{call-long, call-unmet, call-met}
 use Rattle.admission.proofs.PageRules.{slot-is}
 use Rattle.admission.proofs.Outcomes.{answer-passes, whole-marks}
+
+-- THE DIRECTORY'S HASH is 20 bytes, each below 256, so that an entry has it as a number exactly when it has its bytes
+
+entry-hash : EntryHash
+unfolding cdhash
+entry-hash c i d h w l =
+    hash-equal c i (take cdhashLength (digest sha256 d)) h (take-small cdhashLength (digest sha256 d) (digest-small d))
+    (length-take-le cdhashLength (digest sha256 d) (omega (arith, digest-length d))) w l
 
 -- THE WHOLE CHECK
 
@@ -142,7 +157,7 @@ demand2 =
             agrees-exactly = agrees-equal;
             code-slots = slot-is;
             hash-order = hash-less;
-            hash-bytes = hash-equal;
+            entry-hash = entry-hash;
             self-constraint = self-plainly;
             parent-constraint = parent-plainly;
           };

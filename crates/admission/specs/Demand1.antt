@@ -1,4 +1,4 @@
--- Demand 1: a call answers a number of its own list, and leaves the marks unless it answers 0 or 31.
+-- Demand 1: a call answers 0 or a number of its own list, and leaves the marks unless it answers 0 or 31.
 -- (That every call ends, on any bytes and any numbers, is what a proved function without a `requires` says.)
 use Prim.Native.Nat.{ℕ}
 use mathlib.Core.List.{List, [], _∷_}

@@ -1,6 +1,6 @@
 -- Demand 2: an image is accepted exactly when every rule holds, and each refusal is given exactly when its own condition is the first to
 -- hold.
-use Prim.Native.Nat.{ℕ, _<_}
+use Prim.Native.Nat.{ℕ, _+_, _*_, _<_, _≤_}
 use mathlib.Core.Bool.{true, false, cond}
 use mathlib.Core.List.{List, _++_}
 use mathlib.Core.Logic.{_⊎_, _↔_}
@@ -9,10 +9,12 @@ use lib.ListN.{length, getD}
 use Rattle.refusals.specs.declared.Answer.{Answer}
 use Rattle.refusals.specs.Refusals.{Decides, Passes, refuse, OverPlainly, AmongPlainly}
 use Rattle.layout.specs.CodeDirectory.{nCodeSlots}
-use Rattle.directory.specs.Rows.{codeSlot, codeSlots}
+use Rattle.layout.specs.TrustCache.{cacheHead, entrySize, entryCount, hashAt}
+use Rattle.directory.specs.Rows.{cdhash, codeSlot, codeSlots}
 use Rattle.pages.specs.Pages.{PagePower, pageCount, pageOf}
 use Rattle.pages.specs.Marks.{slotAt, badRows, agrees, AgreesExactly}
-use Rattle.trustcache.specs.Bytes.{HashLess, HashEqual}
+use Rattle.trustcache.specs.Bytes.{AllBytes, HashLess}
+use Rattle.trustcache.specs.Rows.{asNumber, hashNumber}
 use Rattle.trustcache.specs.Launch.{SelfPlainly, ParentPlainly}
 use Rattle.admission.specs.declared.Verdict.{Verdict}
 use Rattle.admission.specs.Input.{Lent, pageBytesOf, limitOf, slotsOf}
@@ -53,6 +55,11 @@ pub record Recheck2 (s : List ℕ) (c : Call) (marks : List ℕ) (a : Answer) (a
 abbrev pub CodeSlotsAre : Type 0
 CodeSlotsAre = (d : List ℕ) (i : ℕ) → i < nCodeSlots d → codeSlot d i ≡ slotAt (codeSlots d) i
 
+-- an entry has the directory's hash exactly when it has its 20 bytes, in a cache that holds all its entries
+abbrev pub EntryHash : Type 0
+EntryHash = (c : List ℕ) (i : ℕ) (d : List ℕ) → AllBytes c → cacheHead + entrySize * entryCount c ≤ length c → i < entryCount c
+    → (hashNumber c i ≡ asNumber (cdhash d)) ↔ (hashAt c i ≡ cdhash d)
+
 -- how the rows read in plain words
 pub record Plainly : Type 0 where
   -- a test over positions holds with the lowest position at which its condition holds, and one with several numbers with the lowest fault
@@ -63,9 +70,9 @@ pub record Plainly : Type 0 where
   -- a page agrees with its slot exactly when the slot holds its digest
   pub agrees-exactly : AgreesExactly
   pub code-slots : CodeSlotsAre
-  -- hashes are ordered by their bytes, the first byte first, and are equal where their bytes are
+  -- hashes are ordered by their bytes, the first byte first, and an entry's is the directory's where the bytes are
   pub hash-order : HashLess
-  pub hash-bytes : HashEqual
+  pub entry-hash : EntryHash
   -- the launch constraints
   pub self-constraint : SelfPlainly
   pub parent-constraint : ParentPlainly

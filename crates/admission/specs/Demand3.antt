@@ -80,7 +80,8 @@ unfoldable pub InTurn : List ℕ → List ℕ → List Made → Type 0
 InTurn s marks [] = Unit {0}
 InTurn s marks (m ∷ ms) = Rechecked s (m .call) marks (m .answer) (m .after) × InTurn s (m .after) ms
 
--- the marks are those of the book: mark i is 0 exactly when page i of the book's image agrees with its slot, else 1; one mark a page
+-- the marks are those of the book, of which every page was examined: mark i is 0 exactly when page i of its image agrees with its slot, else 1; one
+-- mark a page
 pub record Marked (s : List ℕ) (b : Book) (marks : List ℕ) : Type 0 where
   pub long : length marks ≡ pageCount (pageBytesOf s) (limitOf s)
   pub mark : (i : ℕ) → i < pageCount (pageBytesOf s) (limitOf s)

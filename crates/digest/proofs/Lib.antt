@@ -4,3 +4,4 @@ pub mod Blocks
 pub mod Padding
 pub mod Examples
 pub mod Equality
+pub mod Digests

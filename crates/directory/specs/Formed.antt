@@ -1,4 +1,4 @@
--- A directory that is well formed, and a signature, in plain conditions with no order among them: what tests 10 to 18 ask, and 1 to 18.
+-- A directory that is well formed, and a signature, in plain conditions with no order among them: what tests 11 to 18 ask, and 1 to 18.
 use Prim.Native.Nat.{ℕ, _+_, _-_, _*_, _<_, _≤_}
 use mathlib.Core.List.{List}
 use mathlib.Core.Logic.{_⊎_, _↔_}

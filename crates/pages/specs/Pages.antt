@@ -11,7 +11,7 @@ use Rattle.refusals.specs.Refusals.{_<?_, _≡?_, _≢?_, pick, Row, row}
 unfoldable pub pageBytes : ℕ → ℕ → ℕ
 pageBytes shift limit = pick (shift ≡? 0) limit (pick (shift ≡? 12) 4096 (pick (shift ≡? 14) 16384 0))
 
--- a page is 2 to the field
+-- P is 2 to the field, where that is 12 or 14
 abbrev pub PagePower : Type 0
 PagePower = (shift limit : ℕ) → (shift ≡ 12) ⊎ (shift ≡ 14) → pageBytes shift limit ≡ 2 ^ shift
 

@@ -1,5 +1,5 @@
 -- What the exported readers answer once more, by the bytes of document 01: the index for where a blob lies, each field's own byte, the size of a page
--- by its shift, the identifier by its zero byte. `s` is the lent signature.
+-- by its shift, the identifier by its zero byte; the hash is that of the directory. `s` is the lent signature.
 use Prim.Native.Nat.{ℕ, _+_, _*_, _^_, _<_}
 use mathlib.Core.List.{List}
 use mathlib.Core.Path.{_≡_}

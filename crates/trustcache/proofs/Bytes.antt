@@ -11,6 +11,7 @@ use lib.ListN.{length, getD, take, drop, length-drop}
 use lib.Seq.{ext-getD, getD-drop, length-take-le}
 use borrow.Author.Tests.{ltb-true, ltb-false}
 use Rattle.endian.specs.Numbers.{big}
+use Rattle.endian.proofs.Numbers.{take-small}
 use Rattle.endian.proofs.Numbers.{big-same}
 use Rattle.layout.specs.TrustCache.{cacheHead, entrySize, cdhashLength, entryCount, hashAt}
 use Rattle.trustcache.specs.Rows.{asNumber, hashNumber}
@@ -64,17 +65,11 @@ module _ (x y : List ℕ) (small : AllBytes x) (others : AllBytes y) where
 
 -- THE HASH OF AN ENTRY
 
-take-bytes : (n : ℕ) (s : List ℕ) → AllBytes s → AllBytes (take n s)
-take-bytes zero s h k = omega arith
-take-bytes (suc n) [] h k = omega arith
-take-bytes (suc n) (x ∷ xs) h zero = h 0
-take-bytes (suc n) (x ∷ xs) h (suc k) = take-bytes n xs (λ m. h (suc m)) k
-
 hash-bytes : (c : List ℕ) (i : ℕ) → AllBytes c → AllBytes (hashAt c i)
 unfolding hashAt
 hash-bytes c i h =
     let start = cacheHead + entrySize * i in
-    take-bytes cdhashLength (drop start c) (λ k. omega (arith, getD-drop start c k 0, h (start + k)))
+    take-small cdhashLength (drop start c) (λ k. omega (arith, getD-drop start c k 0, h (start + k)))
 
 -- an entry of a cache that holds all its entries has a whole hash
 hash-length : (c : List ℕ) (i : ℕ) → cacheHead + entrySize * entryCount c ≤ length c → i < entryCount c → length (hashAt c i) ≡ cdhashLength

@@ -13,7 +13,7 @@ use Rattle.refusals.specs.Refusals.{lowest}
 use Rattle.refusals.proofs.Conditions.{said}
 use Rattle.refusals.proofs.Positions.{lowest-fails, none-fails, first-fails}
 use Rattle.trustcache.specs.Rows.{hashNumber, hasHash, entryOf}
-use Rattle.trustcache.specs.Lookup.{Looked}
+use Rattle.trustcache.specs.Lookup.{EntryFound}
 use Rattle.trustcache.specs.Rules.{CacheFormed}
 use Rattle.trustcache.proofs.Form.{cache-formed}
 
@@ -75,7 +75,7 @@ module _ (c : List ℕ) (h low high : ℕ) (s : Searching c h low high) (l : low
         right = λ f k u b. let v = not-below c f mid k u b in omega arith;
       }
 
-  pub search-found : hashNumber c mid ≡ h → Looked c h mid
+  pub search-found : hashNumber c mid ≡ h → EntryFound c h mid
   search-found m =
       let b : mid < entryCount c = omega (arith, s .inside) in
       record { found = λ p. entry-at c h mid (cache-formed c p) b m; within = omega arith }
@@ -92,6 +92,6 @@ no-entry c h low high s u f = sym (none-fails (hasHash c h) (entryCount c) (λ k
         let v = s .right f k (omega arith) l in
         omega arith
 
-pub search-none : (c : List ℕ) (h n low high : ℕ) → Searching c h low high → high ≤ low → n ≡ entryCount c → Looked c h n
+pub search-none : (c : List ℕ) (h n low high : ℕ) → Searching c h low high → high ≤ low → n ≡ entryCount c → EntryFound c h n
 search-none c h n low high s u e =
     record { found = λ p. e ∙ no-entry c h low high s u (cache-formed c p); within = omega arith }

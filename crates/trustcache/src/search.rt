@@ -8,14 +8,14 @@ use layout::cache::hash_of;
 use layout::directory::CodeDirectory;
 use refusals::Answer;
 ghost use Rattle.trustcache.specs.Rows.{asNumber};
-ghost use Rattle.trustcache.specs.Lookup.{Looked, LookedUp};
+ghost use Rattle.trustcache.specs.Lookup.{EntryFound, LookupAnswer};
 
 // The highest constraint category.
 const HIGHEST_CATEGORY: usize = 1;
 
 // The entry that has the hash, or the number of entries where none has, by halving what is left of the entries.
 fn find_entry(c: &[u8], hash: [u8; 20]) -> usize
-    ensures { λ r. ⌜ Looked (now (c .entry)) (asNumber hash) r ⌝ }
+    ensures { λ r. ⌜ EntryFound (now (c .entry)) (asNumber hash) r ⌝ }
 {
     let entries = CacheHead::read(c).entries;
     let mut low = 0;
@@ -37,7 +37,7 @@ fn find_entry(c: &[u8], hash: [u8; 20]) -> usize
 
 // Tests 26 to 28. The place of a 0 is the entry. In a cache that 24 or 25 refuses, which entry is found is left open.
 pub fn lookup_tested(c: &[u8], hash: [u8; 20]) -> Answer
-    ensures { λ r. ⌜ LookedUp (now (c .entry)) (asNumber hash) r ⌝ }
+    ensures { λ r. ⌜ LookupAnswer (now (c .entry)) (asNumber hash) r ⌝ }
 {
     let head = CacheHead::read(c);
     let found = find_entry(c, hash);
