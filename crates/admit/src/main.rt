@@ -1,4 +1,4 @@
-// The small program on accepted. Its files are made by tools/make-admit.
+// Document 01's small program, run on files that it accepts. They are made by tools/make-admit.
 fn main() {
     admit_run::run();
 }

@@ -1,10 +1,12 @@
--- The number of marks that are lent, and the verdict of a check that is lent so many. Assumes nothing.
-use Prim.Native.Nat.{ℕ, _-_, _≤_}
+-- The number of marks that are lent, the verdict of a check that is lent so many, and what is said of a file. Assumes nothing.
+use Prim.Native.Nat.{ℕ, _-_, _<_, _≤_}
+use mathlib.Core.Bool.{Bool, true, false, not, true≢false, false≢true}
 use mathlib.Core.List.{List}
 use mathlib.Core.Path.{_≡_, refl, sym, ap, _∙_}
 use native.Mathlib.Omega.{arith}
 use lib.ListN.{length, take, drop}
 use lib.Seq.{length-take-le}
+use borrow.Author.Tests.{lt-ltb, le-ltb}
 use Rattle.refusals.specs.declared.Answer.{Answer}
 use Rattle.refusals.specs.Refusals.{accepted, first}
 use Rattle.refusals.proofs.Conditions.{pick-yes, pick-no}
@@ -14,7 +16,9 @@ use Rattle.directory.proofs.Numbers.{signatureRows-exact}
 use Rattle.directory.proofs.Formed.{signature-exactly}
 use Rattle.admission.specs.declared.Verdict.{Verdict}
 use Rattle.admission.specs.Check.{CheckOutcome, checkOf, checkAnswer, verdictOf, Checked}
-use Rattle.admit_run.specs.Small.{marksWanted, files, smallVerdict}
+use Rattle.admit_run.specs.declared.Line.{Line}
+use Rattle.admit_run.specs.declared.Line.the-variants.{NoFile, TooLong}
+use Rattle.admit_run.specs.Small.{marksWanted, files, smallVerdict, fileOf, judged}
 
 module _ (s : List ℕ) (a : Answer) (e : a ≡ first (signatureRows 0 s) accepted) where
   pub wanted-none : (a .number ≡ 0 → ⊥) → 0 ≡ marksWanted s
@@ -35,3 +39,20 @@ verdict-is s image cache marks n v after e h c =
     let z : n - 0 ≡ marksWanted s = omega arith in
     ap (λ (o : CheckOutcome). o .verdict) c
     ∙ ap (λ (m : ℕ). verdictOf (checkAnswer (files s image cache) m)) (length-take-le (n - 0) marks (omega arith) ∙ z)
+
+-- what is said of a file, by what its reading told: it was not there, it is over its size, or neither
+module _ (most : ℕ) (bytes : List ℕ) (rest : List ℕ → Line) where
+  pub judged-missing : (there : Bool) → not there ≡ true → NoFile ≡ judged (fileOf most there bytes) rest
+  unfolding judged fileOf
+  judged-missing false e = refl
+  judged-missing true e = absurd (false≢true e)
+
+  pub judged-long : (there : Bool) → not there ≡ false → most < length bytes → TooLong ≡ judged (fileOf most there bytes) rest
+  unfolding judged fileOf
+  judged-long true e h = rw (lt-ltb most (length bytes) h) refl
+  judged-long false e h = absurd (true≢false e)
+
+  pub judged-has : (there : Bool) → not there ≡ false → length bytes ≤ most → rest bytes ≡ judged (fileOf most there bytes) rest
+  unfolding judged fileOf
+  judged-has true e h = rw (le-ltb most (length bytes) h) refl
+  judged-has false e h = absurd (true≢false e)

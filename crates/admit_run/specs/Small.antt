@@ -1,8 +1,10 @@
--- Document 01's small program: a whole check of three files, with no side files, all launch facts false or 0, and as many marks as test 20
--- wants.
+-- Document 01's small program: what it says of three files. The first that is missing or too long decides; else it is a whole check with
+-- no side files, all launch facts false or 0, and as many marks as test 20 wants.
 use Prim.Native.Nat.{ℕ}
-use mathlib.Core.Bool.{false}
+use mathlib.Core.Bool.{Bool, true, false, cond}
 use mathlib.Core.List.{List, []}
+use lib.ListN.{length}
+use lib.Dec.{ltb}
 use Rattle.refusals.specs.Refusals.{_≡?_, pick, accepted, first}
 use Rattle.layout.specs.CodeDirectory.{nCodeSlots}
 use Rattle.directory.specs.Rows.{directory, signatureRows}
@@ -10,6 +12,8 @@ use Rattle.trustcache.specs.declared.launch.Launch.{Launch}
 use Rattle.admission.specs.declared.Verdict.{Verdict}
 use Rattle.admission.specs.Input.{Lent, lent}
 use Rattle.admission.specs.Check.{checkAnswer, verdictOf}
+use Rattle.admit_run.specs.declared.Line.{Line}
+use Rattle.admit_run.specs.declared.Line.the-variants.{NoFile, TooLong, Answered}
 
 abbrev pub noFacts : Launch
 noFacts =
@@ -30,3 +34,33 @@ files s image cache = lent s image cache false [] false [] noFacts
 
 unfoldable pub smallVerdict : List ℕ → List ℕ → List ℕ → Verdict
 smallVerdict s image cache = verdictOf (checkAnswer (files s image cache) (marksWanted s))
+
+-- the most bytes of each file
+abbrev pub mostSignatureFile : ℕ
+mostSignatureFile = 16384
+
+abbrev pub mostImageFile : ℕ
+mostImageFile = 32768
+
+abbrev pub mostCacheFile : ℕ
+mostCacheFile = 16384
+
+-- what becomes of a file: it can't be opened or read, it is over its size, or it has these bytes
+pub data File : Type 0 where
+  missing : File
+  long : File
+  has : List ℕ → File
+
+unfoldable pub fileOf : ℕ → Bool → List ℕ → File
+fileOf most false bytes = missing
+fileOf most true bytes = cond (ltb most (length bytes)) long (has bytes)
+
+-- what is said of a file, and of the rest where it has bytes
+unfoldable pub judged : File → (List ℕ → Line) → Line
+judged missing rest = NoFile
+judged long rest = TooLong
+judged (has bytes) rest = rest bytes
+
+unfoldable pub smallLine : File → File → File → Line
+smallLine signature image cache =
+    judged signature (λ s. judged image (λ i. judged cache (λ c. Answered (smallVerdict s i c))))

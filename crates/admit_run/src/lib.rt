@@ -1,13 +1,67 @@
 // Document 01's small program: reads a signature, an image and a trust cache from the files that its arguments name, and prints the number
-// and the place of a whole check. `admit` decides; reading and printing stand around it.
+// and the place of a whole check, or what is wrong with a file. `line_of` decides what it says; reading (`files`) and printing stand around
+// it. Its exit status is 0 whatever it prints: the language has no other.
+mod files;
+mod text;
+
 use admission::Verdict;
+use files::load;
 use layout::directory::CodeDirectory;
+use text::put_line;
 use trustcache::Launch;
 ghost use mathlib.Core.Path.{_≡_};
-ghost use Prim.Native.Nat.{_≤_};
+ghost use Prim.Native.Nat.{_<_, _≤_};
 ghost use lib.ListN.{length};
 ghost use Rattle.directory.specs.Rows.{mostPages};
-ghost use Rattle.admit_run.specs.Small.{marksWanted, smallVerdict};
+ghost use Rattle.admit_run.specs.Small.{mostSignatureFile, mostImageFile, mostCacheFile, fileOf, smallLine, marksWanted, smallVerdict};
+
+// The most bytes of each file.
+const SIGNATURE_MOST: usize = 16384;
+
+const IMAGE_MOST: usize = 32768;
+
+const CACHE_MOST: usize = 16384;
+
+// What the program says: that a file is not there, that one is too long, or the verdict.
+pub enum Line {
+    NoFile,
+    TooLong,
+    Answered(Verdict),
+}
+
+// What is said of three files, each with whether it was there and its bytes. The first that is missing or too long decides.
+fn line_of(
+    signature_there: bool,
+    signature: &[u8],
+    image_there: bool,
+    image: &[u8],
+    cache_there: bool,
+    cache: &[u8],
+    marks: &mut [u8],
+) -> Line
+    requires { ⌜ mostPages ≤ length (now marks) ⌝ }
+    ensures { λ r. ⌜ r ≡ smallLine (fileOf mostSignatureFile «signature_there» (now (signature .entry))) (fileOf mostImageFile «image_there» (now (image .entry))) (fileOf mostCacheFile «cache_there» (now (cache .entry))) ⌝ }
+{
+    if !signature_there {
+        return Line::NoFile;
+    }
+    if SIGNATURE_MOST < signature.len() {
+        return Line::TooLong;
+    }
+    if !image_there {
+        return Line::NoFile;
+    }
+    if IMAGE_MOST < image.len() {
+        return Line::TooLong;
+    }
+    if !cache_there {
+        return Line::NoFile;
+    }
+    if CACHE_MOST < cache.len() {
+        return Line::TooLong;
+    }
+    Line::Answered(admit(signature, image, cache, marks))
+}
 
 // The whole check of three files. There is room for the marks of every directory that passes.
 fn admit(signature: &[u8], image: &[u8], cache: &[u8], marks: &mut [u8]) -> Verdict
@@ -45,73 +99,58 @@ fn marks_wanted(signature: &[u8]) -> usize
     CodeDirectory::read(superblob::blob_of(signature, CodeDirectory::TYPE)).code_slots
 }
 
-// A file's bytes in a buffer: how many they are, and whether it could be opened.
-struct Loaded {
-    length: usize,
-    opened: bool,
-}
-
-// Reads the file that argument i names. A buffer that is filled to its end means a file that is too long.
-fn load(i: usize, out: &mut [u8]) -> Loaded
-    ensures { λ r. ⌜ r .length ≤ length (now (out .exit)) ⌝ }
-{
-    let mut name = io::buffer();
-    let size = os::arg(i, &mut name);
-    let fd = os::open_read(&name[0..size]);
-    if fd < 0 {
-        return Loaded {
-            length: 0,
-            opened: false,
-        };
-    }
-    let n = io::read_full(fd, out);
-    libc::close(fd);
-    Loaded {
-        length: n,
-        opened: true,
-    }
-}
-
-// Says what is wrong with a file, and whether something is: it could not be opened, or it is longer than the most.
-fn complain(opened: bool, size: usize, most: usize) -> bool {
-    if !opened {
-        io::write_all(1, b"no file\n");
-        return true;
-    }
-    if most < size {
-        io::write_all(1, b"too long\n");
-        return true;
-    }
-    false
-}
-
-fn print(verdict: Verdict) {
-    io::print_decimal(1, verdict.number as u64);
-    io::write_all(1, b" ");
-    io::print_decimal(1, verdict.place as u64);
-    io::write_all(1, b"\n");
-}
-
-// Reads the files into buffers of one byte more than each may have, in their order, and prints.
-fn run_files(signature: &mut [u8], image: &mut [u8], cache: &mut [u8], marks: &mut [u8])
+// What is said of the files of three names, which are read into buffers longer than each file may be, so that one that is too long shows.
+fn read_and_say(
+    signature_name: &[u8],
+    signature: &mut [u8],
+    image_name: &[u8],
+    image: &mut [u8],
+    cache_name: &[u8],
+    cache: &mut [u8],
+    marks: &mut [u8],
+) -> Line
+    requires { ⌜ (mostSignatureFile < length (now signature)) × (mostImageFile < length (now image)) × (mostCacheFile < length (now cache)) ⌝ }
     requires { ⌜ mostPages ≤ length (now marks) ⌝ }
 {
-    let first = load(1, signature);
+    let first = load(signature_name, signature);
+    let second = load(image_name, image);
+    let third = load(cache_name, cache);
     let a = first.length;
-    if complain(first.opened, a, 16384) {
-        return;
-    }
-    let second = load(2, image);
     let b = second.length;
-    if complain(second.opened, b, 32768) {
-        return;
-    }
-    let third = load(3, cache);
     let c = third.length;
-    if complain(third.opened, c, 16384) {
-        return;
-    }
-    print(admit(&signature[0..a], &image[0..b], &cache[0..c], marks));
+    line_of(
+        first.there,
+        &signature[0..a],
+        second.there,
+        &image[0..b],
+        third.there,
+        &cache[0..c],
+        marks,
+    )
+}
+
+// What the program says of the files of three names.
+pub fn answer(signature_name: &[u8], image_name: &[u8], cache_name: &[u8]) -> Line {
+    let mut signature = [0u8; 16385];
+    let mut image = [0u8; 32769];
+    let mut cache = [0u8; 16385];
+    let mut marks = [0u8; 65536];
+    read_and_say(
+        signature_name,
+        &mut signature,
+        image_name,
+        &mut image,
+        cache_name,
+        &mut cache,
+        &mut marks,
+    )
+}
+
+// Writes a line.
+pub fn print(line: Line) {
+    let mut text = io::buffer();
+    let n = put_line(line, &mut text);
+    io::write_all(1, &text[0..n]);
 }
 
 // The program.
@@ -120,9 +159,11 @@ pub fn run() {
         io::write_all(1, b"usage: admit SIGNATURE IMAGE CACHE\n");
         return;
     }
-    let mut signature = [0u8; 16385];
-    let mut image = [0u8; 32769];
-    let mut cache = [0u8; 16385];
-    let mut marks = [0u8; 65536];
-    run_files(&mut signature, &mut image, &mut cache, &mut marks);
+    let mut signature = io::buffer();
+    let mut image = io::buffer();
+    let mut cache = io::buffer();
+    let a = os::arg(1, &mut signature);
+    let b = os::arg(2, &mut image);
+    let c = os::arg(3, &mut cache);
+    print(answer(&signature[0..a], &image[0..b], &cache[0..c]));
 }

@@ -1,4 +1,4 @@
-// The small program on no arguments. Its files are made by tools/make-admit.
+// Document 01's small program without its arguments.
 fn main() {
     admit_run::run();
 }

@@ -1,4 +1,0 @@
-// The small program on a hash that no entry has. Its files are made by tools/make-admit.
-fn main() {
-    admit_run::run();
-}
