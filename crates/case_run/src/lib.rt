@@ -112,7 +112,7 @@ fn run_arguments(
 }
 
 fn run_in(arena: &mut [u8; ARENA]) {
-    let mut file = [0u8; 262144];
+    let mut file = [0u8; 524288];
     let mut places = [0usize; PLACES];
     let mut marks = [0u8; 64];
     run_arguments(&mut file, arena, &mut places, &mut marks);

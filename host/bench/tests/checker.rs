@@ -2,14 +2,15 @@
 //! same work.
 
 use bench::checker;
-use reference::cases::checks::{cases, Call, Kind};
+use corpora::cases::checks::{cases, Call, Kind};
+use corpora::cases::signatures;
 use reference::check::{check, Lent};
 use reference::recheck::{recheck, Range};
 use reference::slots::SideFiles;
 use trewizlow::Launch;
 
 fn reference_says(call: &Call, marks: &mut [u8]) -> (u32, u64) {
-    let files = SideFiles { info: call.info.as_deref(), resources: call.resources.as_deref() };
+    let files = SideFiles { info: call.info.lent(), resources: call.resources.lent() };
     let answer = match call.kind {
         Kind::WholeCheck => {
             let (signature, image, cache) = (&call.signature, &call.bytes, &call.cache);
@@ -33,8 +34,8 @@ fn checker_says(call: &Call, marks: &mut [u8]) -> (u32, u64) {
         signature: &call.signature,
         image: &call.bytes,
         cache: &call.cache,
-        info_plist: call.info.as_deref(),
-        code_resources: call.resources.as_deref(),
+        info_plist: call.info.lent(),
+        code_resources: call.resources.lent(),
         launch: Launch {
             on_authorized_volume: call.launch.on_authorized_volume,
             on_system_volume: call.launch.on_system_volume,
@@ -56,18 +57,19 @@ fn answers_and_marks_agree() {
         }
         let mut after = marks.clone();
         let wanted = reference_says(&call, &mut after);
-        assert_eq!(checker_says(&call, &mut marks), wanted);
-        assert_eq!(marks, after);
+        assert_eq!(checker_says(&call, &mut marks), wanted, "{}", call.name);
+        assert_eq!(marks, after, "{}", call.name);
     }
 }
 
 /// The same for signatures, damaged in every way that the corpus of signatures has.
 #[test]
 fn signatures_agree() {
-    for signature in reference::cases::signatures::cases() {
+    for named in signatures::cases() {
         let range = Range { start: u64::MAX, length: 1, bytes: &[] };
-        let wanted = recheck(&signature, &range, &mut []);
-        let answer = checker::recheck(&signature, u64::MAX, 1, &[], &mut []);
-        assert_eq!((answer.number, answer.place as u64), (wanted.number, wanted.place));
+        let wanted = recheck(&named.signature, &range, &mut []);
+        let answer = checker::recheck(&named.signature, u64::MAX, 1, &[], &mut []);
+        let answered = (answer.number, answer.place as u64);
+        assert_eq!(answered, (wanted.number, wanted.place), "{}", named.name);
     }
 }

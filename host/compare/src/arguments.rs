@@ -11,7 +11,7 @@ compares answers, marks, lookups, fields, hashes and chains of rechecks.
   --case N    run case N of the seed alone, and do not ask for every number
 
 Prints how often each number was answered. Exit status 0 where all agree and every number
-from 0 to 34 was answered, 1 where not, 2 usage error. The first difference is printed, and
+of the table was answered, 1 where not, 2 usage error. The first difference is printed, and
 its input kept in a file in the current directory.
 ";
 

@@ -1,7 +1,7 @@
 //! The calls that are lent marks, made of both, and what each says as text that can be
 //! compared and printed.
 
-use reference::answer::Answer;
+use reference::answer::{Answer, NUMBERS};
 use reference::inputs::Inputs;
 use reference::recheck::Range;
 
@@ -48,8 +48,14 @@ fn launch(inputs: &Inputs) -> trewizlow::Launch {
     }
 }
 
+/// `NUMBER PLACE`, and a sentence where the table does not have the number.
+pub fn number_and_place(number: u32, place: u64) -> String {
+    let unknown = if NUMBERS.contains(&number) { "" } else { " (no number of the table)" };
+    format!("{number} {place}{unknown}")
+}
+
 fn answered(number: u32, place: u64, written: &Written) -> String {
-    let mut text = format!("{number} {place} ");
+    let mut text = number_and_place(number, place) + " ";
     hex_line(&mut text, "marks", &written.marks);
     if !written.guards_kept {
         text.push_str("and bytes beside the marks were written");
@@ -118,4 +124,26 @@ pub fn recheck_input(signature: &[u8], range: &Range, marks: &[u8]) -> String {
     hex_line(&mut out, "pages", range.bytes);
     hex_line(&mut out, "marks before", marks);
     out
+}
+
+#[cfg(test)]
+mod tests {
+    use super::*;
+
+    /// A number that is not in the table is a difference with a sentence.
+    #[test]
+    fn unknown_number() {
+        let written = Written { marks: vec![1], guards_kept: true };
+        let said = Said {
+            call: "the recheck of 0 + 1".to_string(),
+            library: answered(4_000_000_000, 3, &written),
+            reference: answered(31, 3, &written),
+        };
+        assert!(!said.agrees());
+        let wanted = "4000000000 3 (no number of the table) marks (1 bytes): 01";
+        assert_eq!(
+            (said.library.as_str(), said.reference.as_str()),
+            (wanted, "31 3 marks (1 bytes): 01")
+        );
+    }
 }

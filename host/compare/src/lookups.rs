@@ -1,53 +1,33 @@
 //! The calls that are lent a signature alone, made of both.
 
 use reference::answer::DONE;
-use reference::directory::{self, Directory};
+use reference::directory;
 use reference::superblob;
 
-use crate::calls::Said;
+use crate::calls::{number_and_place, Said};
 
 /// The lookup of a type by both.
 pub fn find(signature: &[u8], kind: u32) -> Said {
     let ours = trewizlow::find(signature, kind);
     let theirs = superblob::find(signature, kind.into());
-    let answer = theirs.answer;
+    let (library, reference) = (ours.answer, theirs.answer);
+    let text = |answer, start: u64, length: u64| format!("{answer}: {start} + {length}");
     Said {
         call: format!("the lookup of type {kind:#x}"),
-        library: format!(
-            "{} {}: {} + {}",
-            ours.answer.number, ours.answer.place, ours.start, ours.length
+        library: text(
+            number_and_place(library.number, library.place as u64),
+            ours.start as u64,
+            ours.length as u64,
         ),
-        reference: format!(
-            "{} {}: {} + {}",
-            answer.number, answer.place, theirs.start, theirs.length
+        reference: text(
+            number_and_place(reference.number, reference.place),
+            theirs.start,
+            theirs.length,
         ),
     }
 }
 
-/// The fields in the order of the C interface; every one 0 where refused.
-fn fields(directory: Option<Directory>) -> [u64; 15] {
-    let Some(d) = directory else {
-        return [0; 15];
-    };
-    [
-        d.start,
-        d.length(),
-        d.version(),
-        d.flags(),
-        d.hash_offset(),
-        d.ident_offset(),
-        d.special_slots(),
-        d.code_slots(),
-        d.hash_size(),
-        d.hash_type(),
-        d.platform(),
-        d.page_shift(),
-        d.code_limit(),
-        d.page_size(),
-        d.ident_length().expect("tested by 18"),
-    ]
-}
-
+/// The library's fields in the order of the C interface.
 fn library_fields(d: &trewizlow::Directory) -> [u64; 15] {
     [
         d.start as u64,
@@ -68,20 +48,20 @@ fn library_fields(d: &trewizlow::Directory) -> [u64; 15] {
     ]
 }
 
-/// The directory's fields by both.
+/// The directory's fields by both; every one 0 where refused.
 pub fn read(signature: &[u8]) -> Said {
     let ours = trewizlow::read(signature);
     let theirs = directory::read(signature, false);
     let answer = theirs.err().unwrap_or(DONE);
+    let fields = theirs.map_or([0; 15], |directory| directory.fields());
+    let text = |answer, fields| format!("{answer}: {fields:?}");
     Said {
         call: "the directory's fields".to_string(),
-        library: format!(
-            "{} {}: {:?}",
-            ours.answer.number,
-            ours.answer.place,
-            library_fields(&ours)
+        library: text(
+            number_and_place(ours.answer.number, ours.answer.place as u64),
+            library_fields(&ours),
         ),
-        reference: format!("{} {}: {:?}", answer.number, answer.place, fields(theirs.ok())),
+        reference: text(number_and_place(answer.number, answer.place), fields),
     }
 }
 
@@ -91,9 +71,10 @@ pub fn cdhash(signature: &[u8]) -> Said {
     let theirs = directory::read(signature, false);
     let answer = theirs.err().unwrap_or(DONE);
     let hash = theirs.map_or([0; 20], |directory| directory.cdhash());
+    let text = |answer, hash: [u8; 20]| format!("{answer}: {hash:02x?}");
     Said {
         call: "the directory's hash".to_string(),
-        library: format!("{} {}: {:02x?}", ours.answer.number, ours.answer.place, ours.hash),
-        reference: format!("{} {}: {hash:02x?}", answer.number, answer.place),
+        library: text(number_and_place(ours.answer.number, ours.answer.place as u64), ours.hash),
+        reference: text(number_and_place(answer.number, answer.place), hash),
     }
 }

@@ -2,6 +2,7 @@
 
 mod arguments;
 
+use std::collections::BTreeMap;
 use std::fmt::Write;
 use std::path::Path;
 use std::process::ExitCode;
@@ -9,6 +10,7 @@ use std::time::{Duration, Instant};
 
 use arguments::{Arguments, HELP};
 use compare::{run, run_case, Counts, Difference};
+use reference::answer::NUMBERS;
 
 /// How often a long run says where it is.
 const PAUSE: Duration = Duration::from_secs(5);
@@ -26,7 +28,9 @@ fn progress(cases: u64) -> impl FnMut(u64) {
 
 fn table(counts: &Counts) -> String {
     let mut out = String::from("number  checks  rechecks\n");
-    for (number, (checks, rechecks)) in counts.checks.iter().zip(counts.rechecks).enumerate() {
+    for number in NUMBERS {
+        let of = |counts: &BTreeMap<u32, u64>| counts.get(&number).copied().unwrap_or_default();
+        let (checks, rechecks) = (of(&counts.checks), of(&counts.rechecks));
         writeln!(out, "{number:6}  {checks:6}  {rechecks:8}").unwrap();
     }
     out

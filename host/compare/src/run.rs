@@ -1,5 +1,8 @@
 //! A run over many cases: the calls of each, the counts, the first difference.
 
+use std::collections::BTreeMap;
+
+use reference::answer::NUMBERS;
 use reference::random::Random;
 use reference::recheck::Range;
 
@@ -9,25 +12,23 @@ use crate::difference::{hex_line, Difference};
 use crate::lookups;
 use crate::scene::{random_of, Scene};
 
-/// Numbers 0 to 34.
-const NUMBERS: usize = 35;
-
 /// Looked up in every signature, with one random number more.
 const LOOKED_UP: [u32; 19] =
     [0, 1, 2, 3, 4, 5, 6, 7, 8, 9, 10, 11, 12, 0x1000, 0x1002, 0x1004, 0x1005, 0x10000, u32::MAX];
 
-/// How often each number was answered.
-#[derive(Clone, Debug)]
+/// How often each number was answered, and how many calls there were of all kinds.
+#[derive(Clone, Debug, Default)]
 pub struct Counts {
-    pub checks: [u64; NUMBERS],
-    pub rechecks: [u64; NUMBERS],
+    pub checks: BTreeMap<u32, u64>,
+    pub rechecks: BTreeMap<u32, u64>,
     pub calls: u64,
 }
 
 impl Counts {
-    /// The numbers that no call answered.
-    pub fn missing(&self) -> Vec<usize> {
-        (0..NUMBERS).filter(|&n| self.checks[n] + self.rechecks[n] == 0).collect()
+    /// The table's numbers that no call answered.
+    pub fn missing(&self) -> Vec<u32> {
+        let answered = |n: &u32| self.checks.contains_key(n) || self.rechecks.contains_key(n);
+        NUMBERS.into_iter().filter(|number| !answered(number)).collect()
     }
 }
 
@@ -41,8 +42,7 @@ pub struct Run {
 
 impl Run {
     fn new(seed: u64) -> Run {
-        let counts = Counts { checks: [0; NUMBERS], rechecks: [0; NUMBERS], calls: 0 };
-        Run { seed, case: 0, counts, difference: None }
+        Run { seed, case: 0, counts: Counts::default(), difference: None }
     }
 
     /// Counts a call and keeps the first difference with its input.
@@ -59,7 +59,7 @@ impl Run {
     /// A recheck by both; the marks after it.
     pub fn recheck(&mut self, signature: &[u8], range: &Range, marks: &[u8]) -> Vec<u8> {
         let (said, answer, after) = calls::recheck(signature, range, marks);
-        self.counts.rechecks[answer.number as usize] += 1;
+        *self.counts.rechecks.entry(answer.number).or_default() += 1;
         self.hold(said, || calls::recheck_input(signature, range, marks));
         after
     }
@@ -85,7 +85,7 @@ impl Run {
         let scene = Scene::new(&mut random);
         self.signature(&scene.inputs.signature, &mut random);
         let (said, answer, marks) = calls::check(&scene.inputs, &scene.marks);
-        self.counts.checks[answer.number as usize] += 1;
+        *self.counts.checks.entry(answer.number).or_default() += 1;
         self.hold(said, || calls::check_input(&scene.inputs, &scene.marks));
         if matches!(answer.number, 0 | 31) {
             chain::chain(self, scene, marks, &mut random);

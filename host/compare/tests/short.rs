@@ -5,7 +5,7 @@ use compare::{run, Difference};
 #[test]
 fn library_and_reference_agree() {
     match run(2, 2_000, |_| {}) {
-        Ok(counts) => assert_eq!(counts.missing(), [0; 0], "numbers that no call answered"),
+        Ok(counts) => assert_eq!(counts.missing(), [0u32; 0], "numbers that no call answered"),
         Err(difference) => panic!("{}{}", difference.text(), difference.input),
     }
 }

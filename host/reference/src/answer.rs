@@ -1,5 +1,11 @@
 //! What a call answers: a number of document 01's table and a place.
 
+/// The numbers of the table. They need not follow each other without gaps.
+pub const NUMBERS: [u32; 35] = [
+    0, 1, 2, 3, 4, 5, 6, 7, 8, 9, 10, 11, 12, 13, 14, 15, 16, 17, 18, 19, 20, 21, 22, 23, 24, 25,
+    26, 27, 28, 29, 30, 31, 32, 33, 34,
+];
+
 /// Number 0 is accepted; every other number is a refusal.
 #[derive(Clone, Copy, Debug, PartialEq, Eq)]
 pub struct Answer {

@@ -114,6 +114,27 @@ impl<'a> Directory<'a> {
         rest.iter().position(|&byte| byte == 0).map(|at| at as u64)
     }
 
+    /// The fields in the order of the C interface, of a directory that passed test 18.
+    pub fn fields(&self) -> [u64; 15] {
+        [
+            self.start,
+            self.length(),
+            self.version(),
+            self.flags(),
+            self.hash_offset(),
+            self.ident_offset(),
+            self.special_slots(),
+            self.code_slots(),
+            self.hash_size(),
+            self.hash_type(),
+            self.platform(),
+            self.page_shift(),
+            self.code_limit(),
+            self.page_size(),
+            self.ident_length().expect("tested by 18"),
+        ]
+    }
+
     /// The hash of the whole blob, cut.
     pub fn cdhash(&self) -> [u8; CS_CDHASH_LEN] {
         cut(sha256::digest(self.bytes))

@@ -7,9 +7,7 @@
 pub mod answer;
 pub mod bytes;
 pub mod cache;
-pub mod cases;
 pub mod check;
-pub mod corpus;
 pub mod directory;
 pub mod inputs;
 pub mod launch;
@@ -21,5 +19,4 @@ pub mod samples;
 pub mod sha256;
 pub mod slots;
 pub mod small;
-pub mod subjects;
 pub mod superblob;

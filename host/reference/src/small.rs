@@ -13,7 +13,8 @@ pub const SIGNATURE_MOST: u64 = 16 * 1024;
 pub const IMAGE_MOST: u64 = 32 * 1024;
 pub const CACHE_MOST: u64 = 16 * 1024;
 
-/// A file's bytes, or the line to print in their place.
+/// A file's bytes, or the line to print in their place. A file that opens and cannot be
+/// read, such as a directory, is as one that can't be opened.
 fn read(path: &Path, most: u64) -> Result<Vec<u8>, String> {
     let mut bytes = Vec::new();
     let file = File::open(path).map_err(|_| "no file\n".to_string())?;

@@ -124,6 +124,10 @@ fn small_program() {
     assert_eq!(small::run(&signature, &image, &empty), "24 0\n");
     assert_eq!(small::run(&none, &image, &cache), "no file\n");
     assert_eq!(small::run(&signature, &image, &none), "no file\n");
+    // A directory opens and cannot be read.
+    assert_eq!(small::run(&files.0, &image, &cache), "no file\n");
+    assert_eq!(small::run(&signature, &files.0, &cache), "no file\n");
+    assert_eq!(small::run(&signature, &image, &files.0), "no file\n");
 }
 
 /// Sizes of the small program's files, and that the first file at fault decides.

@@ -1,4 +1,5 @@
-//! Document 01's small program by the reference: SIGNATURE IMAGE CACHE.
+//! Document 01's small program by the reference: SIGNATURE IMAGE CACHE. Exit status 0
+//! whatever line is printed, 2 for a usage error.
 
 use std::path::Path;
 use std::process::ExitCode;

@@ -1,0 +1,151 @@
+//! Signatures whose fields all differ from each other, so that two that are taken for one
+//! another show, and the same signatures refused by each of tests 1 to 18.
+
+use reference::directory::head_size;
+use reference::make::{blob_of, DirectoryPlan, SignaturePlan};
+
+use super::signatures::faults::Subject;
+use super::signatures::{looked_up, Named, KNOWN};
+use crate::case::Case;
+
+/// Looked up beside the known types.
+const UNKNOWN: [u32; 9] = [1, 3, 4, 6, 12, 0x1005, 0xFFFF, 0x10001, u32::MAX];
+
+/// The first version that has codeLimit64, and so test 15.
+const WITH_CODE_LIMIT_64: u32 = 0x20300;
+
+/// What tells one signature from another.
+struct Reader {
+    version: u32,
+    flags: u32,
+    platform: u8,
+    page_shift: u8,
+    special: usize,
+    code_limit: u32,
+    identifier: usize,
+    /// The types of all blobs, the directory's 0 among them.
+    kinds: &'static [u32],
+    /// Where faults over positions are made.
+    position: usize,
+}
+
+/// Versions, page sizes and positions of the directory. The page size of the last is its
+/// code limit; the fields of the others are all different.
+const READERS: [Reader; 6] = [
+    Reader {
+        version: 0x20001,
+        flags: 0x10002,
+        platform: 7,
+        page_shift: 12,
+        special: 3,
+        code_limit: 4 * 4096 + 77,
+        identifier: 9,
+        kinds: &[0, 5, 2],
+        position: 1,
+    },
+    Reader {
+        version: 0x20102,
+        flags: 0x20A,
+        platform: 1,
+        page_shift: 14,
+        special: 5,
+        code_limit: 3 * 16384,
+        identifier: 21,
+        kinds: &[0x10000, 0, 7, 11],
+        position: 2,
+    },
+    Reader {
+        version: 0x20200,
+        flags: 0xFFFF_FFFF,
+        platform: 200,
+        page_shift: 12,
+        special: 11,
+        code_limit: 6 * 4096 - 1,
+        identifier: 30,
+        kinds: &[8, 9, 0x1004, 10, 0],
+        position: 3,
+    },
+    Reader {
+        version: 0x20400,
+        flags: 0x8000_0000,
+        platform: 6,
+        page_shift: 14,
+        special: 8,
+        code_limit: 16384 * 9 + 1,
+        identifier: 4,
+        kinds: &[2, 5, 7, 0, 0x1000, 0x10000],
+        position: 4,
+    },
+    Reader {
+        version: 0x20600,
+        flags: 0x31337,
+        platform: 255,
+        page_shift: 12,
+        special: 4,
+        code_limit: 13 * 4096 + 4095,
+        identifier: 50,
+        kinds: &[0x1002, 2, 0, 5, 7, 8, 9, 10, 11, 0x1003, 0x10000],
+        position: 4,
+    },
+    Reader {
+        version: 0x20301,
+        flags: 0x500,
+        platform: 3,
+        page_shift: 0,
+        special: 6,
+        code_limit: 54_321,
+        identifier: 17,
+        kinds: &[11, 0, 2],
+        position: 1,
+    },
+];
+
+impl Reader {
+    fn directory(&self) -> DirectoryPlan {
+        let mut plan = DirectoryPlan::new(self.version);
+        plan.flags = self.flags;
+        plan.platform = self.platform;
+        plan.page_shift = self.page_shift;
+        plan.code_limit = self.code_limit;
+        plan.identifier = vec![b'r'; self.identifier];
+        plan.special = vec![[0xA5; 32]; self.special];
+        let pages = match self.page_shift {
+            0 => 1,
+            shift => self.code_limit.div_ceil(1 << shift),
+        };
+        plan.code = vec![[0xC7; 32]; pages as usize];
+        plan
+    }
+
+    /// A blob of each type, no two of the same length.
+    fn subject(&self) -> Subject {
+        let blob = |(position, &kind): (usize, &u32)| match kind {
+            0 => (kind, self.directory().bytes()),
+            _ => (kind, blob_of(kind, &vec![0xB0; 3 + 5 * position])),
+        };
+        let plan = SignaturePlan::new(self.kinds.iter().enumerate().map(blob).collect());
+        let head = head_size(self.version.into()).expect("a version that passes");
+        Subject::new(plan, head as u32, self.special as u32)
+    }
+
+    /// The signature, and its faults: those over positions at a place that is not the
+    /// number.
+    fn cases(&self) -> Vec<Named> {
+        let subject = self.subject();
+        let name = format!("reader of version {:#x}", self.version);
+        let mut cases = vec![Named { name: name.clone(), signature: subject.bytes() }];
+        let tests = (1..=18).filter(|&number| number != 15 || self.version >= WITH_CODE_LIMIT_64);
+        for number in tests {
+            let mut signature = subject.bytes();
+            subject.damage(&mut signature, number, self.position);
+            cases.push(Named { name: format!("{name}, refused by {number}"), signature });
+        }
+        cases
+    }
+}
+
+/// The cases of the corpus.
+pub fn corpus() -> Vec<Case> {
+    let types = [&KNOWN[..], &UNKNOWN].concat();
+    READERS.iter().flat_map(Reader::cases).map(|named| looked_up(named, &types)).collect()
+}

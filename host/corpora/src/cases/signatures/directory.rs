@@ -1,0 +1,382 @@
+//! Cases for tests 10 to 18.
+
+use reference::make::{blob_of, put32, with32, with8, DirectoryPlan, SignaturePlan};
+use reference::random::Random;
+
+use super::{common, one_page, short_blob, signature_of, single, slots, Cases, EDGES, KNOWN};
+
+/// Where a signature of one blob has its directory.
+const START: usize = 20;
+
+/// Both ends of each range of versions.
+const VERSIONS: [u32; 13] = [
+    0x20001, 0x200FF, 0x20100, 0x201FF, 0x20200, 0x202FF, 0x20300, 0x203FF, 0x20400, 0x204FF,
+    0x20500, 0x205FF, 0x20600,
+];
+
+pub fn add(cases: &mut Cases) {
+    no_directory(cases);
+    versions(cases);
+    short_directories(cases);
+    hash_kinds(cases);
+    page_shifts(cases);
+    code_limits_64(cases);
+    code_limits(cases);
+    many_slots(cases);
+    special_counts(cases);
+    code_counts(cases);
+    slot_bounds(cases);
+    no_slots(cases);
+    far_slots(cases);
+    identifiers(cases);
+    identifier_ends(cases);
+    last_bytes(cases);
+    free_fields(cases);
+    real_digests(cases);
+}
+
+/// A signature whose directory is the second of three blobs; names call it `second`.
+fn second(plan: &DirectoryPlan) -> Vec<u8> {
+    SignaturePlan::new(vec![(2, short_blob(2)), (0, plan.bytes()), (5, short_blob(5))]).bytes()
+}
+
+/// Test 10: every known type alone, alternate directories, and all types but 0.
+fn no_directory(cases: &mut Cases) {
+    for kind in KNOWN {
+        cases.add(format!("type {kind:#x} alone"), signature_of(&[kind]).bytes());
+    }
+    for kind in [0x1000, 0x1001, 0x1004] {
+        let directory = one_page(0x20400, 0).bytes();
+        let name = format!("directory as type {kind:#x}");
+        cases.add(name, SignaturePlan::new(vec![(kind, directory)]).bytes());
+    }
+    for count in [2, 5, 13] {
+        cases.add(format!("{count} types without 0"), signature_of(&KNOWN[1..=count]).bytes());
+    }
+    cases.add("four blobs, directory as type 0x1000", with32(&common().bytes(), 12, 0x1000));
+}
+
+/// Test 11: versions beside every range, on a directory that is long enough for all.
+fn versions(cases: &mut Cases) {
+    for version in VERSIONS {
+        cases.add(format!("version {version:#x}"), single(&one_page(version, 1)));
+        cases.add(format!("version {version:#x}, second"), second(&one_page(version, 0)));
+    }
+    let good = single(&one_page(0x20600, 1));
+    let outside =
+        [0, 1, 0x10001, 0x1FFFF, 0x20000, 0x20601, 0x20602, 0x206FF, 0x20700, 0x21000, 0x2FFFF];
+    let wide = [0x30001, 0x120001, 0x1020001, 0x80020400, 0xFFFFFFFF, 0x01000200, 0x00010002];
+    for version in outside.into_iter().chain(wide).chain(VERSIONS) {
+        let name = format!("version {version:#x} on a long directory");
+        cases.add(name, with32(&good, START + 8, version));
+    }
+}
+
+/// Test 12: directories cut below their heads, and the cut before the version.
+fn short_directories(cases: &mut Cases) {
+    for version in [0x20000, 0x20001, 0x20400, 0x20600, 0x20601] {
+        let mut bytes = one_page(0x20600, 0).bytes();
+        put32(&mut bytes, 8, version);
+        for length in (8..=12).chain([43, 44]) {
+            let name = format!("version {version:#x} on a long directory, cut to {length}");
+            cases.add(name, cut_directory(&bytes, length));
+        }
+    }
+    for version in VERSIONS {
+        let plan = one_page(version, 1);
+        let bytes = plan.bytes();
+        for length in [plan.head() - 1, plan.head(), plan.head() + 1] {
+            let name = format!("version {version:#x}, directory cut to {length}");
+            cases.add(name, cut_directory(&bytes, length));
+        }
+    }
+}
+
+/// A signature whose directory is cut, and says so.
+fn cut_directory(directory: &[u8], length: usize) -> Vec<u8> {
+    let mut cut = directory[..length].to_vec();
+    put32(&mut cut, 4, length as u32);
+    SignaturePlan::new(vec![(0, cut)]).bytes()
+}
+
+/// Test 13.
+fn hash_kinds(cases: &mut Cases) {
+    for plan in [one_page(0x20001, 1), one_page(0x20400, 2)] {
+        let good = single(&plan);
+        let types = (0..=5).chain([32, 34, 130, 255]).map(|hash_type| (32, hash_type));
+        let sizes = [0, 2, 20, 31, 33, 48, 64, 160, 255].map(|size| (size, 2));
+        let both = [(20, 1), (48, 4), (2, 32), (31, 1)];
+        for (size, hash_type) in types.chain(sizes).chain(both) {
+            let name =
+                format!("version {:#x}, hash size {size}, hash type {hash_type}", plan.version);
+            cases.add(name, with8(&with8(&good, START + 36, size), START + 37, hash_type));
+        }
+    }
+}
+
+/// Test 14. The code limit is at most one page of any of the sizes.
+fn page_shifts(cases: &mut Cases) {
+    let good = single(&one_page(0x20200, 1));
+    for shift in (0..=17).chain([31, 32, 44, 46, 64, 76, 78, 128, 140, 255]) {
+        cases.add(format!("pageSize {shift}"), with8(&good, START + 39, shift));
+    }
+}
+
+/// Test 15: each byte of codeLimit64, where the version has it and where it has not.
+fn code_limits_64(cases: &mut Cases) {
+    for version in [0x202FF, 0x20300, 0x203FF, 0x20400, 0x205FF, 0x20600] {
+        let plan = one_page(version, 1);
+        let good = single(&plan);
+        let first = if version < 0x20300 { 55 } else { 52 };
+        for at in first..66 {
+            let name = format!("version {version:#x}, byte {at} set");
+            cases.add(name, with8(&good, START + at, 1 + at as u8));
+        }
+    }
+    for version in [0x20001, 0x200FF, 0x20100, 0x20200, 0x202FF] {
+        let mut plan = one_page(version, 0);
+        plan.identifier = vec![b'i'; 30];
+        let name = format!("version {version:#x}, identifier over byte 56");
+        cases.add(name.as_str(), single(&plan));
+        cases.add(name + ", zeros there", with32(&single(&plan), START + 56, 0));
+    }
+}
+
+/// Test 16: the slots that each code limit wants, one less and one more.
+fn code_limits(cases: &mut Cases) {
+    let limits = [0u32, 1, 4095, 4096, 4097, 8192, 8193, 16383, 16384, 16385, 32769];
+    for shift in [12u8, 14, 0] {
+        for limit in limits {
+            for change in [0, 1, -1] {
+                let count = i64::from(wanted(limit, shift)) + change;
+                if count >= 0 {
+                    add_limit(cases, &with_limit(limit, shift, count as usize));
+                }
+            }
+        }
+    }
+    for limit in [0x7FFFFFFF, 0x80000000, 0xFFFFF000, 0xFFFFFFFF] {
+        for count in [0, 1, 2] {
+            add_limit(cases, &with_limit(limit, 0, count));
+            add_limit(cases, &with_limit(limit, 12, count));
+        }
+    }
+}
+
+/// A directory named by its code limit, page size and code slots.
+fn add_limit(cases: &mut Cases, plan: &DirectoryPlan) {
+    let (limit, shift, count) = (plan.code_limit, plan.page_shift, plan.code.len());
+    let name = format!("code limit {limit}, pageSize {shift}, {count} code slots");
+    cases.add(name, single(plan));
+}
+
+fn wanted(limit: u32, shift: u8) -> u32 {
+    match shift {
+        0 => u32::from(limit > 0),
+        _ => limit.div_ceil(1 << shift),
+    }
+}
+
+fn with_limit(limit: u32, shift: u8, count: usize) -> DirectoryPlan {
+    let mut plan = one_page(0x20100, 1);
+    plan.code_limit = limit;
+    plan.page_shift = shift;
+    plan.code = slots(0xC0, count);
+    plan
+}
+
+/// Test 16 at 65,536 code slots. The slots are one run of equal bytes.
+fn many_slots(cases: &mut Cases) {
+    let most = 65_536u32;
+    for (shift, limit, count) in [
+        (12, most << 12, most),
+        (12, (most << 12) + 1, most + 1),
+        (12, (most << 12) - 4095, most),
+        (12, (most << 12) - 4096, most - 1),
+        (14, most << 14, most),
+        (14, (most << 14) + 1, most + 1),
+    ] {
+        let mut plan = with_limit(limit, shift, 0);
+        plan.code = vec![[0xC7; 32]; count as usize];
+        add_limit(cases, &plan);
+    }
+    // Right by the arithmetic, over the limit, and without the slots.
+    for (shift, limit) in
+        [(12, (most << 12) + 1), (12, 0xFFFFFFFF), (14, 0xFFFFFFFF), (12, 0x80000000)]
+    {
+        let mut plan = with_limit(limit, shift, 1);
+        plan.code_count = Some(wanted(limit, shift));
+        let name = format!("code limit {limit}, pageSize {shift}, right count, no slots");
+        cases.add(name, single(&plan));
+    }
+}
+
+/// Test 16: special slots, with room for them.
+fn special_counts(cases: &mut Cases) {
+    for version in [0x20001, 0x20600] {
+        for special in 0..=12 {
+            let name = format!("version {version:#x}, {special} special slots");
+            cases.add(name, single(&one_page(version, special)));
+        }
+    }
+    let good = single(&one_page(0x20400, 11));
+    for count in (9..=13).chain([256, 257, 0x0B000000]).chain(EDGES) {
+        let name = format!("eleven special slots, count {count}");
+        cases.add(name, with32(&good, START + 24, count));
+    }
+}
+
+/// Test 16: the count's field alone.
+fn code_counts(cases: &mut Cases) {
+    for plan in [one_page(0x20400, 1), with_limit(8193, 12, 3), with_limit(0, 12, 0)] {
+        let good = single(&plan);
+        for count in (0..=4).chain([257, 65536, 65537, 0x01000000, 0xFFFFFFFF]) {
+            let name = format!("code limit {}, code slot count {count}", plan.code_limit);
+            cases.add(name, with32(&good, START + 28, count));
+        }
+    }
+}
+
+/// Test 17: hashOffset beside the lowest and the highest that passes.
+fn slot_bounds(cases: &mut Cases) {
+    for version in VERSIONS {
+        for (special, code) in [(0, 1), (1, 1), (1, 0)] {
+            let mut plan = one_page(version, special);
+            plan.code = slots(0xC0, code);
+            plan.code_limit = 4096 * code as u32;
+            plan.tail = vec![0xEE; 5];
+            let lowest = (plan.head() + 32 * special) as u32;
+            let highest = plan.bytes().len() as u32 - 32 * code as u32;
+            let good = single(&plan);
+            for offset in [lowest - 1, lowest, highest, highest + 1] {
+                let slots = format!("{special} special and {code} code slots");
+                let name = format!("version {version:#x}, {slots}, hashOffset {offset}");
+                cases.add(name, with32(&good, START + 16, offset));
+            }
+        }
+    }
+}
+
+/// Test 17 without slots: hashOffset is free.
+fn no_slots(cases: &mut Cases) {
+    let mut plan = one_page(0x20400, 0);
+    plan.code_limit = 0;
+    plan.code = Vec::new();
+    let good = single(&plan);
+    for offset in [31, 87, 88].into_iter().chain(EDGES) {
+        let name = format!("no slots, hashOffset {offset}");
+        let bytes = with32(&good, START + 16, offset);
+        cases.add(name.as_str(), bytes.clone());
+        cases.add(name + ", pageSize 0", with8(&bytes, START + 39, 0));
+    }
+}
+
+/// Test 17: offsets far below the head and numbers whose sum would wrap in 32 bits.
+fn far_slots(cases: &mut Cases) {
+    for (special, code) in [(0, 1), (11, 2), (3, 0)] {
+        let mut plan = one_page(0x20300, special);
+        plan.code = slots(0xC0, code);
+        plan.code_limit = 4096 * code as u32;
+        let good = single(&plan);
+        let length = plan.bytes().len() as u32;
+        let near = [31, 32, 63, 64, 95, 96, length - 32, length - 31, length, length + 1];
+        let far = [0xFFFFFFC0, 0xFFFFFFDF, 0xFFFFFFE0, 0xFFFFFFE1, 0xFFFFFE9F, 0xFFFFFEA0];
+        for offset in near.into_iter().chain(far).chain(EDGES) {
+            let name = format!("{special} special and {code} code slots, hashOffset {offset}");
+            cases.add(name, with32(&good, START + 16, offset));
+        }
+    }
+}
+
+/// Test 18: identOffset beside the head's end and the directory's end.
+fn identifiers(cases: &mut Cases) {
+    for version in VERSIONS {
+        let mut plan = one_page(version, 1);
+        plan.tail = b"behind\0".to_vec();
+        let (head, length) = (plan.head() as u32, plan.bytes().len() as u32);
+        let good = single(&plan);
+        let near =
+            [0, head - 1, head, head + 2, head + 3, length - 7, length - 1, length, length + 1];
+        for offset in near {
+            let name = format!("version {version:#x}, identOffset {offset}");
+            cases.add(name, with32(&good, START + 20, offset));
+        }
+    }
+    let good = single(&one_page(0x20400, 1));
+    for offset in [0x10000, 0x80000000, 0xFFFFFFEC, 0xFFFFFFFF] {
+        cases.add(format!("identOffset {offset:#x}"), with32(&good, START + 20, offset));
+    }
+}
+
+/// Test 18: identifiers of several lengths; the zero byte lies in a slot.
+fn identifier_ends(cases: &mut Cases) {
+    for length in [0, 1, 2, 31, 32, 33, 300] {
+        let mut plan = one_page(0x20400, 1);
+        plan.identifier = vec![b'n'; length];
+        cases.add(format!("identifier of {length} bytes"), single(&plan));
+        cases.add(format!("identifier of {length} bytes, second"), second(&plan));
+    }
+    for at in [0, 1, 31, 32, 63] {
+        let mut plan = one_page(0x20200, 1);
+        plan.identifier = Vec::new();
+        plan.ident_offset = Some(plan.head() as u32 + 1);
+        let name = format!("identifier ends at byte {at} of the slots");
+        let start = START + plan.head() + 1;
+        cases.add(name.as_str(), with8(&single(&plan), start + at, 0));
+        let start = second_start() + plan.head() + 1;
+        cases.add(name + ", second", with8(&second(&plan), start + at, 0));
+    }
+}
+
+/// Test 18: the zero byte is the last byte, is missing, or lies just behind the directory.
+fn last_bytes(cases: &mut Cases) {
+    for last in [0, 1, 0x80, 0xFF] {
+        let mut plan = one_page(0x20200, 1);
+        plan.identifier = Vec::new();
+        plan.tail = vec![b't', b't', last];
+        plan.ident_offset = Some(plan.head() as u32 + 1);
+        let name = |what| format!("identifier's last byte {last:#x}{what}");
+        let mut whole = SignaturePlan::new(vec![(0, plan.bytes())]);
+        cases.add(name(""), whole.bytes());
+        whole.padding = vec![0; 8];
+        cases.add(name(", zeros behind the SuperBlob"), whole.bytes());
+        let mut followed = SignaturePlan::new(vec![(0, plan.bytes()), (2, blob_of(2, &[0; 4]))]);
+        followed.blobs[1].gap = vec![0; 3];
+        cases.add(name(", zeros in a gap"), followed.bytes());
+    }
+}
+
+/// Where `second` lays its directory.
+fn second_start() -> usize {
+    12 + 8 * 3 + short_blob(2).len()
+}
+
+/// Fields that nothing up to 18 examines.
+fn free_fields(cases: &mut Cases) {
+    for version in [0x20001, 0x20300, 0x20600] {
+        let plan = one_page(version, 2);
+        let good = single(&plan);
+        let name = |what: String| format!("version {version:#x}, {what}");
+        for flags in [0, 0x20002, 0xFFFFFFFF] {
+            cases.add(name(format!("flags {flags:#x}")), with32(&good, START + 12, flags));
+        }
+        for platform in [1, 255] {
+            cases.add(name(format!("platform {platform}")), with8(&good, START + 38, platform));
+        }
+        let code_limit_64 = if version < 0x20300 { 0..0 } else { 56..64 };
+        for at in (40..plan.head()).step_by(3).filter(|at| !code_limit_64.contains(at)) {
+            cases.add(name(format!("byte {at} 0xff")), with8(&good, START + at, 0xFF));
+        }
+    }
+}
+
+/// Directories over real images, as a signer writes them.
+fn real_digests(cases: &mut Cases) {
+    let image = Random::new(0x7265616C).bytes(16385);
+    for (length, shift) in [(1, 12), (4097, 12), (8193, 12), (16385, 14), (16385, 0), (16385, 12)] {
+        let plan = one_page(0x20500, 2).over(&image[..length], shift);
+        let name = format!("random image of {length}, pageSize {shift}");
+        cases.add(name.as_str(), single(&plan));
+        cases.add(name + ", second", second(&plan));
+    }
+}

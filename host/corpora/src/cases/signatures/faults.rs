@@ -1,0 +1,55 @@
+//! Faults in a good signature: one for each of tests 1 to 18.
+
+use reference::make::{put32, BlobPlan, SignaturePlan};
+
+/// A good signature to damage, with its directory's place.
+pub struct Subject {
+    plan: SignaturePlan,
+    directory: usize,
+    /// The directory's head size and special slots.
+    head: u32,
+    special: u32,
+}
+
+impl Subject {
+    /// The directory of the plan has this head size and so many special slots.
+    pub fn new(plan: SignaturePlan, head: u32, special: u32) -> Subject {
+        let is_directory = |blob: &BlobPlan| blob.kind == 0;
+        let directory = plan.blobs.iter().position(is_directory).expect("a blob of type 0");
+        Subject { plan, directory, head, special }
+    }
+
+    pub fn bytes(&self) -> Vec<u8> {
+        self.plan.bytes()
+    }
+
+    /// Makes the fault of a number; at `position` where the test runs over positions.
+    pub fn damage(&self, bytes: &mut Vec<u8>, number: u32, position: usize) {
+        let starts = self.plan.starts();
+        let (start, directory) = (starts[position], starts[self.directory]);
+        let (index, blobs) = (12 + 8 * position, &self.plan.blobs);
+        let index_end = 12 + 8 * blobs.len() as u32;
+        let before = &blobs[(position + blobs.len() - 1) % blobs.len()];
+        match number {
+            1 => bytes.truncate(11),
+            2 => put32(bytes, 0, 0xFADE0CC1),
+            3 => put32(bytes, 8, 65),
+            4 => put32(bytes, 4, index_end - 1),
+            5 => put32(bytes, index, 6),
+            6 => put32(bytes, index, before.kind),
+            7 => put32(bytes, index + 4, index_end - 1),
+            8 => put32(bytes, start, 0xFADE0C03),
+            9 => put32(bytes, start + 4, blobs[position].bytes.len() as u32 + 1),
+            10 => put32(bytes, 12 + 8 * self.directory, 0x1001),
+            11 => put32(bytes, directory + 8, 0x20601),
+            12 => put32(bytes, directory + 4, self.head - 1),
+            13 => bytes[directory + 37] = 1,
+            14 => bytes[directory + 39] = 13,
+            15 => bytes[directory + 63] = 1,
+            16 => put32(bytes, directory + 24, 12),
+            17 => put32(bytes, directory + 16, self.head + 32 * self.special - 1),
+            18 => put32(bytes, directory + 20, self.head - 1),
+            _ => unreachable!("no such fault"),
+        }
+    }
+}
