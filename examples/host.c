@@ -2,7 +2,8 @@
  * A host in C: checks an image, then rechecks its first page. At the repository's top:
  *   cc -Wall -Wextra -I include examples/host.c target/staticlib/libtrewizlow.a -o host-example
  *   ./host-example samples/signature.bin samples/image.bin samples/cache.bin
- * Exit status 0 accepted, 1 refused, 2 usage or input error.
+ * It has no side files and no launch facts. Exit status: 0 the image may run, 1 it is refused,
+ * 2 usage, a file that cannot be read, or no memory.
  */
 #include <stdio.h>
 #include <stdlib.h>
@@ -13,42 +14,48 @@ typedef struct {
     size_t length;
 } buffer;
 
-/* A whole file. An empty one still gets a buffer: a pointer that is lent must not be null. */
+static void fail(const char *subject, const char *message)
+{
+    fprintf(stderr, "%s: %s\n", subject, message);
+    exit(2);
+}
+
+/* At least one byte: a pointer that is lent must not be null, even with length 0. */
+static void *room_for(void *before, size_t bytes)
+{
+    void *room = realloc(before, bytes);
+    if (!room)
+        fail("host-example", "out of memory");
+    return room;
+}
+
 static buffer read_file(const char *path)
 {
-    buffer file = {malloc(1), 0};
     size_t room = 1, got;
+    buffer file = {room_for(NULL, room), 0};
     FILE *stream = fopen(path, "rb");
-    if (!stream) {
-        perror(path);
-        exit(2);
-    }
-    while (file.bytes && (got = fread(file.bytes + file.length, 1, room - file.length, stream)) > 0) {
+    if (!stream)
+        fail(path, "cannot be opened");
+    while ((got = fread(file.bytes + file.length, 1, room - file.length, stream)) > 0) {
         file.length += got;
         if (file.length == room)
-            file.bytes = realloc(file.bytes, room *= 2);
+            file.bytes = room_for(file.bytes, room *= 2);
     }
-    if (!file.bytes || ferror(stream)) {
-        fprintf(stderr, "%s: cannot be read\n", path);
-        exit(2);
-    }
+    if (ferror(stream))
+        fail(path, "cannot be read");
     fclose(stream);
     return file;
 }
 
 int main(int argc, char **argv)
 {
-    if (argc != 4) {
-        fprintf(stderr, "usage: %s SIGNATURE IMAGE CACHE\n", argv[0]);
-        return 2;
-    }
+    if (argc != 4)
+        fail("usage", "host-example SIGNATURE IMAGE CACHE");
     buffer signature = read_file(argv[1]), image = read_file(argv[2]), cache = read_file(argv[3]);
 
     /* One mark a page. A refused signature has 0 pages here, and the check says why. */
     trewizlow_directory directory = trewizlow_read(signature.bytes, signature.length);
-    uint8_t *marks = calloc(directory.code_slots + 1, 1);
-    if (!marks)
-        return 2;
+    uint8_t *marks = room_for(NULL, directory.code_slots + (size_t)1);
 
     trewizlow_launch launch = {false, false, 0, 0, false};
     trewizlow_verdict verdict = trewizlow_check(

@@ -15,6 +15,13 @@
  * others may overlap each other. Nothing is kept after a call returns.
  *
  * Marks. One byte a page: 0 where the page agrees with its code slot, 1 where it differs.
+ *
+ * Values. A bool that is lent is 0 or 1; with any other value in its byte the call is
+ * undefined. Padding bytes of a struct are unspecified: compare fields, not structs.
+ *
+ * Targets. The archive is for x86-64 Linux, the only target that the kit compiles for. This
+ * file was tried there with gcc 12 and clang 14, as C99, C11, C17, C++11, C++17 and C++20.
+ * From C11 and C++11 on it does not compile where a struct is laid out otherwise.
  */
 #ifndef TREWIZLOW_H
 #define TREWIZLOW_H
@@ -22,6 +29,9 @@
 #include <stdbool.h>
 #include <stddef.h>
 #include <stdint.h>
+
+/* The number of this interface. It is raised whenever a declaration below changes. */
+#define TREWIZLOW_INTERFACE 1
 
 #ifdef __cplusplus
 extern "C" {
@@ -113,6 +123,69 @@ trewizlow_cdhash_answer trewizlow_cdhash(const uint8_t *signature, size_t signat
 
 #ifdef __cplusplus
 }
+#endif
+
+/* The layout that the archive was compiled for: bytes of each struct, then offset and bytes
+ * of each field. */
+#if defined(__cplusplus) && __cplusplus >= 201103L
+#define TREWIZLOW_ASSERT(condition) static_assert(condition, #condition)
+#elif !defined(__cplusplus) && defined(__STDC_VERSION__) && __STDC_VERSION__ >= 201112L
+#define TREWIZLOW_ASSERT(condition) _Static_assert(condition, #condition)
+#endif
+
+#ifdef TREWIZLOW_ASSERT
+#define TREWIZLOW_STRUCT(type, bytes) TREWIZLOW_ASSERT(sizeof(type) == (bytes))
+#define TREWIZLOW_FIELD(type, field, offset, bytes) \
+    TREWIZLOW_ASSERT(offsetof(type, field) == (offset) && sizeof(((type *)0)->field) == (bytes))
+
+TREWIZLOW_STRUCT(trewizlow_answer, 16);
+TREWIZLOW_FIELD(trewizlow_answer, number, 0, 4);
+TREWIZLOW_FIELD(trewizlow_answer, place, 8, 8);
+
+TREWIZLOW_STRUCT(trewizlow_verdict, 16);
+TREWIZLOW_FIELD(trewizlow_verdict, number, 0, 4);
+TREWIZLOW_FIELD(trewizlow_verdict, place, 8, 8);
+
+TREWIZLOW_STRUCT(trewizlow_launch, 5);
+TREWIZLOW_FIELD(trewizlow_launch, on_authorized_volume, 0, 1);
+TREWIZLOW_FIELD(trewizlow_launch, on_system_volume, 1, 1);
+TREWIZLOW_FIELD(trewizlow_launch, launch_type, 2, 1);
+TREWIZLOW_FIELD(trewizlow_launch, validation_category, 3, 1);
+TREWIZLOW_FIELD(trewizlow_launch, parent_is_init, 4, 1);
+
+TREWIZLOW_STRUCT(trewizlow_blob, 32);
+TREWIZLOW_FIELD(trewizlow_blob, number, 0, 4);
+TREWIZLOW_FIELD(trewizlow_blob, place, 8, 8);
+TREWIZLOW_FIELD(trewizlow_blob, start, 16, 8);
+TREWIZLOW_FIELD(trewizlow_blob, length, 24, 8);
+
+TREWIZLOW_STRUCT(trewizlow_directory, 88);
+TREWIZLOW_FIELD(trewizlow_directory, number, 0, 4);
+TREWIZLOW_FIELD(trewizlow_directory, place, 8, 8);
+TREWIZLOW_FIELD(trewizlow_directory, start, 16, 8);
+TREWIZLOW_FIELD(trewizlow_directory, length, 24, 8);
+TREWIZLOW_FIELD(trewizlow_directory, version, 32, 4);
+TREWIZLOW_FIELD(trewizlow_directory, flags, 36, 4);
+TREWIZLOW_FIELD(trewizlow_directory, hash_offset, 40, 4);
+TREWIZLOW_FIELD(trewizlow_directory, ident_offset, 44, 4);
+TREWIZLOW_FIELD(trewizlow_directory, special_slots, 48, 4);
+TREWIZLOW_FIELD(trewizlow_directory, code_slots, 52, 4);
+TREWIZLOW_FIELD(trewizlow_directory, hash_size, 56, 1);
+TREWIZLOW_FIELD(trewizlow_directory, hash_type, 57, 1);
+TREWIZLOW_FIELD(trewizlow_directory, platform, 58, 1);
+TREWIZLOW_FIELD(trewizlow_directory, page_shift, 59, 1);
+TREWIZLOW_FIELD(trewizlow_directory, code_limit, 64, 8);
+TREWIZLOW_FIELD(trewizlow_directory, page_size, 72, 8);
+TREWIZLOW_FIELD(trewizlow_directory, ident_length, 80, 8);
+
+TREWIZLOW_STRUCT(trewizlow_cdhash_answer, 40);
+TREWIZLOW_FIELD(trewizlow_cdhash_answer, number, 0, 4);
+TREWIZLOW_FIELD(trewizlow_cdhash_answer, place, 8, 8);
+TREWIZLOW_FIELD(trewizlow_cdhash_answer, hash, 16, 20);
+
+#undef TREWIZLOW_FIELD
+#undef TREWIZLOW_STRUCT
+#undef TREWIZLOW_ASSERT
 #endif
 
 #endif

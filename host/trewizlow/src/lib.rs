@@ -30,14 +30,17 @@
 
 mod answer;
 mod interface;
+mod layout;
 mod rules;
 mod signature;
 
 pub use answer::{Answer, Verdict};
 pub use interface::{check, recheck, Launch, Lent};
-pub use rules::{Rule, HIGHEST, RULES};
+pub use rules::{Rule, RULES};
 pub use signature::{cdhash, find, read, Blob, CdHash, Directory};
 
+/// The number of the C interface that this crate declares: `TREWIZLOW_INTERFACE` of the header.
+pub const INTERFACE: u32 = 1;
 /// The most bytes of a signature, and of a side file that is there (test 1).
 pub const MOST_SIGNATURE_BYTES: usize = 4_194_304;
 /// The length of the longest trust cache: 24 bytes and 24 for each of 65,536 entries (test 24).
