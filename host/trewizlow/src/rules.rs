@@ -14,6 +14,11 @@ pub struct Rule {
 }
 
 impl Rule {
+    /// The rule of a number; none where the table has no such number.
+    pub fn of(number: u32) -> Option<&'static Rule> {
+        RULES.iter().find(|rule| rule.number == number)
+    }
+
     /// What failed, at a place that is not said.
     pub fn general(&self) -> String {
         self.failed.replace("{place}", "N")
@@ -24,9 +29,6 @@ impl Rule {
         self.failed.replace("{place}", &place.to_string())
     }
 }
-
-/// The highest number of the table.
-pub const HIGHEST: u32 = 34;
 
 const ALL: &str = "check, recheck, read, cdhash, find";
 const READING: &str = "check, recheck, read, cdhash";
@@ -49,10 +51,10 @@ const fn rule(
     Rule { number, failed, given, place, calls }
 }
 
-/// The rules by number; 0 is accepted.
+/// The rules in the order of their numbers, which may have gaps; 0 is no refusal.
 #[rustfmt::skip]
-pub const RULES: [Rule; HIGHEST as usize + 1] = [
-    rule(0, "every test passes",
+pub static RULES: &[Rule] = &[
+    rule(0, "every test of the call passes",
         "every test of the call passes",
         "in a whole check the trust cache entry that lists the directory's hash, from 0", ALL),
     rule(1, "the signature, or a side file that is there, has a length outside the limits",
@@ -164,10 +166,17 @@ mod tests {
     use super::*;
 
     #[test]
-    fn numbers_are_in_order() {
-        for (at, rule) in RULES.iter().enumerate() {
-            assert_eq!(rule.number as usize, at);
+    fn numbers_rise() {
+        assert!(RULES.is_sorted_by(|one, next| one.number < next.number));
+    }
+
+    #[test]
+    fn rules_are_found_by_number() {
+        for rule in RULES {
+            assert_eq!(Rule::of(rule.number).unwrap().given, rule.given);
         }
+        assert!(Rule::of(RULES.last().unwrap().number + 1).is_none());
+        assert!(Rule::of(u32::MAX).is_none());
     }
 
     /// A refusal that has a place names it, and no other does.

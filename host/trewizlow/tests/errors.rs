@@ -4,17 +4,17 @@ mod scratch;
 
 use std::process::{Command, Stdio};
 
-use scratch::{run, sample, Scratch, TOOL};
+use scratch::{run, sample, Run, Scratch, TOOL};
 
-fn check(signature: &str, image: &str) -> (i32, String, String) {
-    run(&["check", "--signature", signature, "--image", image, "--cache", &sample("cache.bin")])
+fn check(signature: &str, image: &str) -> Run {
+    run(&scratch::check(signature, image, &sample("cache.bin")))
 }
 
 /// Each is status 2 with a sentence on standard error, and nothing on standard output.
 #[test]
 fn usage_errors() {
     let signature = sample("signature.bin");
-    let lists: [&[&str]; 12] = [
+    let lists: [&[&str]; 19] = [
         &[],
         &["chek"],
         &["check"],
@@ -24,6 +24,13 @@ fn usage_errors() {
         &["check", "--parent-is-init=1"],
         &["check", "word"],
         &["recheck", "--start", "-1"],
+        &["recheck", "--start", "+5"],
+        &["recheck", "--start", "0x+5"],
+        &["recheck", "--start", "0x"],
+        &["check", "--help=1"],
+        &["check", "--version"],
+        &["--version", "check"],
+        &["help", "chek"],
         &["show"],
         &["show", "--verbose", &signature],
         &["explain", "1", "2"],
@@ -35,14 +42,30 @@ fn usage_errors() {
     }
 }
 
+/// With `--json`, wherever it stands as a name, the sentence is an object on standard output
+/// as well.
 #[test]
-fn help_of_each_command() {
-    for command in ["check", "recheck", "show", "explain"] {
-        let (status, out, err) = run(&[command, "--help"]);
-        assert!(status == 0 && out.starts_with(&format!("usage: trewizlow {command}")));
-        assert_eq!(err, "");
+fn errors_in_json() {
+    let lists: [&[&str]; 8] = [
+        &["--json"],
+        &["chek", "--json"],
+        &["check", "--json"],
+        &["check", "--bogus", "--json", "word"],
+        &["check", "--json", "--json"],
+        &["recheck", "--json", "--start", "x"],
+        &["explain", "x", "--json"],
+        &["show", "/nowhere/file", "--json"],
+    ];
+    for list in lists {
+        let (status, out, err) = run(list);
+        let sentence = err.strip_prefix("trewizlow: ").unwrap().trim_end();
+        let quoted = sentence.replace('"', "\\\"");
+        assert_eq!((status, out), (2, format!("{{\"error\":\"{quoted}\"}}\n")), "{list:?}");
     }
-    assert!(run(&["--help"]).1.starts_with("usage: trewizlow COMMAND"));
+    for list in [["check", "--cache", "--json"], ["check", "--", "--json"]] {
+        let (status, out, _) = run(&list);
+        assert_eq!((status, out.as_str()), (2, ""), "{list:?}");
+    }
 }
 
 /// A sentence names the file that is missing or cannot be read.
@@ -57,8 +80,13 @@ fn unreadable_files() {
         assert_eq!((status, out.as_str()), (2, ""));
         assert!(err.contains("cannot read") && err.contains("missing"));
     }
-    let (status, _, err) = check(&scratch.path(""), &sample("image.bin"));
-    assert!(status == 2 && err.contains("cannot read"));
+    for (signature, image) in
+        [(scratch.path(""), sample("image.bin")), (sample("signature.bin"), scratch.path(""))]
+    {
+        let (status, out, err) = check(&signature, &image);
+        assert_eq!((status, out.as_str()), (2, ""));
+        assert!(err.contains("cannot read"));
+    }
 }
 
 /// The library refuses empty and long files; a note says which file is at fault.
@@ -87,6 +115,28 @@ fn unwritable_marks() {
     let (status, out, err) = run(&list);
     assert!(status == 2 && out.starts_with("0 4 accepted"));
     assert!(err.contains("cannot write the marks to \"/nowhere/marks\""));
+    let (status, out, _) = run(&[&list[..], &["--json"]].concat());
+    assert!(status == 2 && out.starts_with("{\"number\":0,") && out.lines().count() == 1);
+    assert!(out.contains("\"marks_written\":false,\"error\":\"cannot write the marks"));
+}
+
+/// A Mach-O file in the place of its signature is refused; a note says what has to be done.
+#[test]
+fn macho_files() {
+    let scratch = Scratch::new("macho");
+    let magics = [0xFEED_FACE_u32, 0xFEED_FACF, 0xCEFA_EDFE, 0xCFFA_EDFE];
+    let kinds = magics.map(|magic| (magic, "is a Mach-O file"));
+    for (magic, kind) in
+        kinds.into_iter().chain([0xCAFE_BABE, 0xCAFE_BABF].map(|magic| (magic, "is a universal")))
+    {
+        let file = scratch.file("file", &[&magic.to_be_bytes()[..], &[0; 60]].concat());
+        let runs = [run(&["show", &file]), check(&file, &sample("image.bin"))];
+        for (status, out, err) in runs {
+            assert!(status == 1 && out.starts_with("2 0 refused: "));
+            assert!(err.contains(kind) && err.contains("cut out first") && err.contains("README"));
+        }
+    }
+    assert_eq!(run(&["show", &sample("signature.bin")]).2, "");
 }
 
 /// A reader that goes away is neither a panic nor a signal.

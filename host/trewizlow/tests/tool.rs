@@ -2,20 +2,7 @@
 
 mod scratch;
 
-use scratch::{run, sample, Scratch};
-
-/// The arguments of a check of these samples.
-fn check<'a>(signature: &'a str, image: &'a str, cache: &'a str) -> Vec<&'a str> {
-    vec!["check", "--signature", signature, "--image", image, "--cache", cache]
-}
-
-fn recheck<'a>(range: [&'a str; 2], pages: &'a str, marks: &'a str) -> Vec<&'a str> {
-    let [start, length] = range;
-    let signature = concat!(env!("CARGO_MANIFEST_DIR"), "/../../samples/signature.bin");
-    let mut list = vec!["recheck", "--signature", signature, "--start", start];
-    list.extend(["--length", length, "--pages", pages, "--marks", marks]);
-    list
-}
+use scratch::{check, recheck, run, sample, Scratch};
 
 #[test]
 fn accepted_and_refused() {
@@ -28,7 +15,7 @@ fn accepted_and_refused() {
     let mut json = check(&signature, &damaged, &cache);
     json.push("--json");
     let object = "{\"number\":31,\"place\":1,\"accepted\":false,\
-                  \"message\":\"page 1 differs from its code slot\",\"marks_written\":true}\n";
+                  \"message\":\"page 1 differs from its code slot\",\"marks_written\":false}\n";
     assert_eq!(run(&json), (1, object.into(), "".into()));
 }
 
@@ -49,6 +36,10 @@ fn marks_of_a_check() {
     assert_eq!(scratch.read("marks"), [0, 1, 0]);
     assert_eq!(with_marks(&sample("image.bin"), &cache), 0);
     assert_eq!(scratch.read("marks"), [0, 0, 0]);
+    let image = sample("image.bin");
+    let mut list = check(&signature, &image, &cache);
+    list.extend(["--marks", &marks, "--json"]);
+    assert!(run(&list).1.ends_with(",\"marks_written\":true}\n"));
     assert_eq!(scratch.names(), ["empty", "marks"]);
 }
 
@@ -56,21 +47,52 @@ fn marks_of_a_check() {
 #[test]
 fn marks_of_a_recheck() {
     let scratch = Scratch::new("recheck");
+    let signature = sample("signature.bin");
     let image = std::fs::read(sample("image.bin")).unwrap();
     let page = scratch.file("page", &image[4096..8192]);
     let marks = scratch.file("marks", &[0, 1, 1]);
-    assert_eq!(run(&recheck(["6000", "1"], &page, &marks)).0, 1);
+    assert_eq!(run(&recheck(&signature, ["6000", "1"], &page, &marks)).0, 1);
     assert_eq!(scratch.read("marks"), [0, 0, 1]);
     let last = scratch.file("last", &image[8192..]);
-    assert_eq!(run(&recheck(["0x2000", "1"], &last, &marks)).0, 0);
+    assert_eq!(run(&recheck(&signature, ["0x2000", "1"], &last, &marks)).0, 0);
     assert_eq!(scratch.read("marks"), [0, 0, 0]);
-    let (status, out, _) = run(&recheck(["0", "1"], &last, &marks));
+    let (status, out, _) = run(&recheck(&signature, ["0", "1"], &last, &marks));
     assert!(status == 1 && out.starts_with("33 0 refused: "));
     let bad = scratch.file("bad", &[0, 2, 0]);
-    let (status, out, _) = run(&recheck(["6000", "1"], &page, &bad));
+    let (status, out, _) = run(&recheck(&signature, ["6000", "1"], &page, &bad));
     assert!(status == 1 && out.starts_with("34 1 refused: the mark of page 1"));
     assert_eq!(scratch.read("bad"), [0, 2, 0]);
     assert_eq!(scratch.names(), ["bad", "last", "marks", "page"]);
+}
+
+/// A recheck's 0 says what it means, and does not say that the image is accepted.
+#[test]
+fn what_a_recheck_says() {
+    let scratch = Scratch::new("says");
+    let signature = sample("signature.bin");
+    let image = std::fs::read(sample("image.bin")).unwrap();
+    let (page, damaged) = (&image[..4096], [0; 4096]);
+    let said = |pages: &[u8], json: &[&'static str]| {
+        let (pages, marks) = (scratch.file("pages", pages), scratch.file("marks", &[0, 0, 0]));
+        let mut list = recheck(&signature, ["0", "1"], &pages, &marks);
+        list.extend(json);
+        run(&list)
+    };
+    let meaning = "no mark is 1 (every page agrees as last examined); \
+                   the trust cache was not looked at";
+    let (status, out, _) = said(page, &[]);
+    assert_eq!((status, out), (0, format!("0 0 pages agree: {meaning}\n")));
+    let (_, out, _) = said(page, &["--json"]);
+    let object = format!(
+        "{{\"number\":0,\"place\":0,\"pages_agree\":true,\"message\":\"{meaning}\",\
+         \"marks_written\":true}}\n"
+    );
+    assert_eq!(out, object);
+    let (status, out, _) = said(&damaged, &["--json"]);
+    assert!(status == 1 && out.contains("\"pages_agree\":false"));
+    let (status, out, _) = said(b"", &["--json"]);
+    assert!(status == 1 && out.contains("\"pages_agree\":null"));
+    assert!(out.contains("\"number\":33") && out.contains("\"marks_written\":false"));
 }
 
 #[test]
@@ -110,16 +132,30 @@ fn show_prints_parts() {
     let hash = trewizlow::cdhash(&std::fs::read(&signature).unwrap()).hash;
     let hash: String = hash.iter().map(|byte| format!("{byte:02x}")).collect();
     assert!(status == 0 && out.contains(&format!("\"cdhash\":\"{hash}\"")));
+    assert!(out.contains("\"well_formed\":true") && out.contains("tests 1 to 18 pass"));
     let (status, out, _) = run(&["show", &sample("cache.bin")]);
     assert!(status == 1 && out.starts_with("2 0 refused: "));
+    let (_, out, _) = run(&["show", "--json", &sample("cache.bin")]);
+    assert!(out.contains("\"well_formed\":false") && !out.contains("accepted"));
 }
 
 #[test]
 fn explain_every_number() {
-    for number in 0..=34 {
-        let (status, out, _) = run(&["explain", &number.to_string()]);
-        assert!(status == 0 && out.starts_with(&format!("{number}: ")));
+    for rule in trewizlow::RULES {
+        let (status, out, _) = run(&["explain", &rule.number.to_string()]);
+        assert!(status == 0 && out.starts_with(&format!("{}: ", rule.number)));
     }
-    assert_eq!(run(&["explain"]).1.lines().count(), 35);
-    assert_eq!(run(&["explain", "35"]).0, 2);
+    assert_eq!(run(&["explain"]).1.lines().count(), trewizlow::RULES.len());
+}
+
+/// A number that the table does not have is an error that says which it has.
+#[test]
+fn explain_unknown_numbers() {
+    let last = trewizlow::RULES.last().unwrap().number;
+    for word in [(last + 1).to_string(), "4294967296".to_string(), "x".to_string()] {
+        let (status, out, err) = run(&["explain", &word]);
+        assert_eq!((status, out.as_str()), (2, ""));
+        let sentence = format!("number {word} is not in this tool's table, which has 0 to ");
+        assert!(err.contains(&sentence) && err.contains(&last.to_string()));
+    }
 }

@@ -3,8 +3,9 @@
 // Each test file uses a part of this.
 #![allow(dead_code)]
 
-use std::path::PathBuf;
-use std::process::{Command, Stdio};
+use std::os::unix::fs::symlink;
+use std::path::{Path, PathBuf};
+use std::process::{Command, Output, Stdio};
 
 pub const TOOL: &str = env!("CARGO_BIN_EXE_trewizlow");
 
@@ -13,14 +14,47 @@ pub fn sample(name: &str) -> String {
 }
 
 /// Status, standard output and standard error.
-pub fn run(list: &[&str]) -> (i32, String, String) {
-    let done = Command::new(TOOL).args(list).stdin(Stdio::null()).output().unwrap();
+pub type Run = (i32, String, String);
+
+pub fn ended(done: Output) -> Run {
     let text = |bytes| String::from_utf8(bytes).unwrap();
     (done.status.code().expect("no signal"), text(done.stdout), text(done.stderr))
 }
 
+pub fn tool(list: &[&str]) -> Command {
+    let mut command = Command::new(TOOL);
+    command.args(list).stdin(Stdio::null());
+    command
+}
+
+pub fn run(list: &[&str]) -> Run {
+    ended(tool(list).output().unwrap())
+}
+
+/// A run in a directory, where relative names are looked up.
+pub fn run_in(directory: &Path, list: &[&str]) -> Run {
+    ended(tool(list).current_dir(directory).output().unwrap())
+}
+
+/// The arguments of a check of these files.
+pub fn check<'a>(signature: &'a str, image: &'a str, cache: &'a str) -> Vec<&'a str> {
+    vec!["check", "--signature", signature, "--image", image, "--cache", cache]
+}
+
+/// The arguments of a recheck of these files.
+pub fn recheck<'a>(
+    signature: &'a str,
+    [start, length]: [&'a str; 2],
+    pages: &'a str,
+    marks: &'a str,
+) -> Vec<&'a str> {
+    let mut list = vec!["recheck", "--signature", signature, "--start", start];
+    list.extend(["--length", length, "--pages", pages, "--marks", marks]);
+    list
+}
+
 /// A directory that goes with its files when the test ends.
-pub struct Scratch(PathBuf);
+pub struct Scratch(pub PathBuf);
 
 impl Scratch {
     pub fn new(name: &str) -> Scratch {
@@ -35,6 +69,22 @@ impl Scratch {
 
     pub fn file(&self, name: &str, bytes: &[u8]) -> String {
         std::fs::write(self.0.join(name), bytes).unwrap();
+        self.path(name)
+    }
+
+    /// A file that is all hole.
+    pub fn sparse(&self, name: &str, length: u64) -> String {
+        std::fs::File::create(self.0.join(name)).unwrap().set_len(length).unwrap();
+        self.path(name)
+    }
+
+    pub fn symlink(&self, to: &str, name: &str) -> String {
+        symlink(to, self.0.join(name)).unwrap();
+        self.path(name)
+    }
+
+    pub fn hard_link(&self, to: &str, name: &str) -> String {
+        std::fs::hard_link(to, self.0.join(name)).unwrap();
         self.path(name)
     }
 

@@ -1,31 +1,35 @@
 //! `trewizlow check`.
 
-use std::ffi::OsString;
-use std::io::{stderr, IsTerminal};
-
 use trewizlow::{check, read, Launch, Verdict, MOST_CACHE_BYTES, MOST_SIGNATURE_BYTES};
 
 use crate::arguments::{Arguments, Names};
-use crate::files::{notes, replace, Lent};
+use crate::command::Command;
+use crate::files::{mebibytes, notes, Lent, Opened};
+use crate::help;
 use crate::json;
-use crate::outcome::{tell, Outcome};
+use crate::macho;
+use crate::marks::Out;
+use crate::outcome::Outcome;
+use crate::progress::during;
 
-const NAMES: Names = Names {
-    valued: &[
-        "--signature",
-        "--image",
-        "--cache",
-        "--info-plist",
-        "--code-resources",
-        "--launch-type",
-        "--validation-category",
-        "--marks",
-    ],
-    flags: &["--on-system-volume", "--on-authorized-volume", "--parent-is-init"],
+pub const COMMAND: Command = Command {
+    called: &["check"],
+    names: Names {
+        valued: &[
+            "--signature",
+            "--image",
+            "--cache",
+            "--info-plist",
+            "--code-resources",
+            "--launch-type",
+            "--validation-category",
+            "--marks",
+        ],
+        flags: &["--on-system-volume", "--on-authorized-volume", "--parent-is-init"],
+    },
+    help: help::CHECK,
+    run,
 };
-
-/// From this many bytes on a person is told that hashing takes a while.
-const LARGE: usize = 64 << 20;
 
 fn fact(arguments: &Arguments, name: &str) -> Result<u8, String> {
     let number = arguments.number(name, u8::MAX.into())?;
@@ -42,55 +46,105 @@ fn launch(arguments: &Arguments) -> Result<Launch, String> {
     })
 }
 
-fn side_file(arguments: &Arguments, name: &str) -> Result<Option<Lent>, String> {
-    arguments.path(name).map(|path| Lent::read(path, MOST_SIGNATURE_BYTES)).transpose()
+/// The files of a check, all open and none read.
+struct Inputs {
+    signature: Opened,
+    image: Opened,
+    cache: Opened,
+    info: Option<Opened>,
+    resources: Option<Opened>,
 }
 
-fn announce(image: &[u8]) {
-    if image.len() > LARGE && stderr().is_terminal() {
-        tell(&format!("checking {} MiB", image.len() >> 20));
+impl Inputs {
+    fn open(arguments: &Arguments) -> Result<Inputs, String> {
+        let signature = arguments.wanted_path("--signature")?;
+        let image = arguments.wanted_path("--image")?;
+        let cache = arguments.wanted_path("--cache")?;
+        let side_file = |name| arguments.path(name).map(Opened::new).transpose();
+        Ok(Inputs {
+            signature: Opened::new(signature)?,
+            image: Opened::new(image)?,
+            cache: Opened::new(cache)?,
+            info: side_file("--info-plist")?,
+            resources: side_file("--code-resources")?,
+        })
+    }
+
+    fn all(&self) -> Vec<&Opened> {
+        let wanted = [&self.signature, &self.image, &self.cache];
+        wanted.into_iter().chain(&self.info).chain(&self.resources).collect()
+    }
+
+    /// The small files are read first. Of the image no byte past the code limit is read.
+    fn lend(self) -> Result<Files, String> {
+        let side_file =
+            |file: Option<Opened>| file.map(|f| f.read(MOST_SIGNATURE_BYTES)).transpose();
+        let signature = self.signature.read(MOST_SIGNATURE_BYTES)?;
+        let cache = self.cache.read(MOST_CACHE_BYTES)?;
+        let (info, resources) = (side_file(self.info)?, side_file(self.resources)?);
+        let image = self.image.image(read(&signature.bytes).code_limit)?;
+        Ok(Files { signature, image, cache, info, resources })
     }
 }
 
-fn text(verdict: &Verdict, json: bool) -> String {
+/// The files of a check as they are lent.
+struct Files {
+    signature: Lent,
+    image: Lent,
+    cache: Lent,
+    info: Option<Lent>,
+    resources: Option<Lent>,
+}
+
+impl Files {
+    /// The verdict and the marks.
+    fn check(&self, launch: Launch) -> (Verdict, Vec<u8>) {
+        let lent = trewizlow::Lent {
+            signature: &self.signature.bytes,
+            image: &self.image.bytes,
+            cache: &self.cache.bytes,
+            info_plist: self.info.as_ref().map(|file| &*file.bytes),
+            code_resources: self.resources.as_ref().map(|file| &*file.bytes),
+            launch,
+        };
+        let mut marks = vec![0; read(&self.signature.bytes).code_slots as usize];
+        let what = format!("checking {}", mebibytes(&self.image.bytes));
+        let verdict = during(&what, || check(&lent, &mut marks));
+        (verdict, marks)
+    }
+
+    fn notes(&self, refused: bool) -> Vec<String> {
+        let files = [&self.signature, &self.cache, &self.image];
+        let lengths = notes(refused, files.into_iter().chain(&self.info).chain(&self.resources));
+        lengths.into_iter().chain(macho::note(&self.signature).filter(|_| refused)).collect()
+    }
+}
+
+fn text(verdict: &Verdict, written: &Result<bool, String>, json: bool) -> String {
     if !json {
         return format!("{verdict}\n");
     }
-    let mut members = json::answer(verdict.number, verdict.place, &verdict.sentence());
-    members.push(("marks_written", verdict.wrote_marks().to_string()));
+    let accepted = ("accepted", verdict.accepted().to_string());
+    let mut members = json::answer(verdict.number, verdict.place, accepted, &verdict.sentence());
+    members.extend(json::marks(written));
     json::object(&members) + "\n"
 }
 
-pub fn run(list: Vec<OsString>) -> Result<Outcome, String> {
-    let arguments = Arguments::read(list, &NAMES)?;
+fn run(arguments: &Arguments) -> Result<Outcome, String> {
     arguments.no_words()?;
-    let launch = launch(&arguments)?;
-    let signature = Lent::read(arguments.wanted_path("--signature")?, MOST_SIGNATURE_BYTES)?;
-    let directory = read(&signature.bytes);
-    // The library reads no byte past the code limit, so neither are they fetched.
-    let image = Lent::read(arguments.wanted_path("--image")?, directory.code_limit)?;
-    let cache = Lent::read(arguments.wanted_path("--cache")?, MOST_CACHE_BYTES)?;
-    let info = side_file(&arguments, "--info-plist")?;
-    let resources = side_file(&arguments, "--code-resources")?;
-    announce(&image.bytes);
-    let mut marks = vec![0; directory.code_slots as usize];
-    let lent = trewizlow::Lent {
-        signature: &signature.bytes,
-        image: &image.bytes,
-        cache: &cache.bytes,
-        info_plist: info.as_ref().map(|file| file.bytes.as_slice()),
-        code_resources: resources.as_ref().map(|file| file.bytes.as_slice()),
-        launch,
+    let launch = launch(arguments)?;
+    let inputs = Inputs::open(arguments)?;
+    let out = arguments.path("--marks").map(|path| Out::new(path, &inputs.all())).transpose()?;
+    let files = inputs.lend()?;
+    let (verdict, marks) = files.check(launch);
+    let written = match out.filter(|_| verdict.wrote_marks()) {
+        Some(out) => out.write(&marks).map(|()| true),
+        None => Ok(false),
     };
-    let verdict = check(&lent, &mut marks);
-    let mut outcome = Outcome::text(text(&verdict, arguments.json()));
-    outcome.accepted = verdict.accepted();
-    // An image may be longer than the code limit, so that only an empty one is worth a note.
-    let image = Some(&image).filter(|image| image.bytes.is_empty());
-    let files = [&signature, &cache].into_iter().chain(image).chain(&info).chain(&resources);
-    outcome.notes = notes(!verdict.accepted(), files);
-    if let Some(path) = arguments.path("--marks").filter(|_| verdict.wrote_marks()) {
-        outcome.failure = replace(path, &marks).err();
-    }
-    Ok(outcome)
+    Ok(Outcome {
+        text: text(&verdict, &written, arguments.json()),
+        passed: verdict.accepted(),
+        notes: files.notes(!verdict.accepted()),
+        failure: written.err(),
+    })
 }

@@ -1,38 +1,127 @@
-//! Reading the lent files and replacing a marks file.
+//! The files that are lent: opened first, all of them, and read or mapped later.
 
-use std::fs::{self, File, OpenOptions};
-use std::io::{self, Read, Write};
+use std::fs::{File, Metadata};
+use std::io::{self, Read};
+use std::ops::Deref;
+use std::os::unix::fs::MetadataExt;
 use std::path::{Path, PathBuf};
 
-/// A file's bytes: all of them, or one more than `most` where it has more. That one byte
-/// lets the library see that the file is too long.
-pub struct Lent {
-    path: PathBuf,
-    most: usize,
-    pub bytes: Vec<u8>,
+use crate::map::Map;
+use crate::progress::during;
+
+/// Device and inode: the same for each name of a file.
+pub type Identity = (u64, u64);
+
+pub fn identity(metadata: &Metadata) -> Identity {
+    (metadata.dev(), metadata.ino())
 }
 
-fn read_up_to(path: &Path, most: u64) -> io::Result<Vec<u8>> {
-    let file = File::open(path)?;
-    let mut bytes = Vec::new();
-    // A regular file's length spares growing the buffer again and again.
-    let length = file.metadata()?.len().min(most);
-    let room = usize::try_from(length).map_err(|_| io::ErrorKind::OutOfMemory)?;
-    bytes.try_reserve_exact(room).map_err(|_| io::ErrorKind::OutOfMemory)?;
-    file.take(most).read_to_end(&mut bytes)?;
-    Ok(bytes)
+fn cannot_read(path: &Path, error: io::Error) -> String {
+    format!("cannot read {path:?}: {error}")
+}
+
+/// A file that is open and not read yet.
+pub struct Opened {
+    pub path: PathBuf,
+    file: File,
+    metadata: Metadata,
+}
+
+impl Opened {
+    pub fn new(path: &Path) -> Result<Opened, String> {
+        let file = during(&format!("opening {path:?}"), || File::open(path));
+        file.and_then(|file| Opened::of(path, file)).map_err(|error| cannot_read(path, error))
+    }
+
+    /// The file of this path, which is open already.
+    pub fn of(path: &Path, file: File) -> io::Result<Opened> {
+        let metadata = file.metadata()?;
+        if metadata.is_dir() {
+            return Err(io::ErrorKind::IsADirectory.into());
+        }
+        Ok(Opened { path: path.to_path_buf(), file, metadata })
+    }
+
+    pub fn identity(&self) -> Identity {
+        identity(&self.metadata)
+    }
+
+    /// A small file: all its bytes, or one more than `most` where it has more. That one byte
+    /// lets the library see that the file is too long.
+    pub fn read(self, most: usize) -> Result<Lent, String> {
+        let bytes = self.fetched(most + 1);
+        self.lent(bytes, most + 1, most)
+    }
+
+    /// The image, of which no more than the code limit is examined.
+    pub fn image(self, code_limit: usize) -> Result<Lent, String> {
+        let bytes = self.mapped(code_limit);
+        self.lent(bytes, code_limit, code_limit)
+    }
+
+    /// The pages of a recheck, with one byte more as in `read`: no pages have more bytes than
+    /// the code limit.
+    pub fn pages(self, code_limit: usize) -> Result<Lent, String> {
+        let bytes = self.mapped(code_limit + 1);
+        self.lent(bytes, code_limit + 1, code_limit)
+    }
+
+    fn lent(self, bytes: io::Result<Bytes>, wanted: usize, most: usize) -> Result<Lent, String> {
+        let bytes = bytes.map_err(|error| cannot_read(&self.path, error))?;
+        let empty = wanted > 0 && bytes.is_empty();
+        Ok(Lent { path: self.path, bytes, empty, most })
+    }
+
+    /// Bytes in a buffer, up to `wanted`.
+    fn fetched(&self, wanted: usize) -> io::Result<Bytes> {
+        let mut bytes = Vec::new();
+        // A regular file's length spares growing the buffer again and again.
+        let length = usize::try_from(self.metadata.len()).unwrap_or(usize::MAX);
+        bytes.try_reserve_exact(length.min(wanted)).map_err(|_| io::ErrorKind::OutOfMemory)?;
+        let what = format!("reading {:?}", self.path);
+        during(&what, || (&self.file).take(wanted as u64).read_to_end(&mut bytes))?;
+        Ok(Bytes::Fetched(bytes))
+    }
+
+    /// A regular file's bytes where they lie, up to `wanted`. Nothing else can be mapped, nor
+    /// can no bytes at all.
+    fn mapped(&self, wanted: usize) -> io::Result<Bytes> {
+        let length = usize::try_from(self.metadata.len()).unwrap_or(usize::MAX).min(wanted);
+        if self.metadata.is_file() && length > 0 {
+            return Map::new(&self.file, length).map(Bytes::Mapped);
+        }
+        self.fetched(wanted)
+    }
+}
+
+pub enum Bytes {
+    Fetched(Vec<u8>),
+    Mapped(Map),
+}
+
+impl Deref for Bytes {
+    type Target = [u8];
+
+    fn deref(&self) -> &[u8] {
+        match self {
+            Bytes::Fetched(bytes) => bytes,
+            Bytes::Mapped(map) => map,
+        }
+    }
+}
+
+/// A file's bytes as the library is lent them.
+pub struct Lent {
+    pub path: PathBuf,
+    pub bytes: Bytes,
+    empty: bool,
+    most: usize,
 }
 
 impl Lent {
-    pub fn read(path: &Path, most: usize) -> Result<Lent, String> {
-        let bytes = read_up_to(path, most as u64 + 1)
-            .map_err(|error| format!("cannot read {path:?}: {error}"))?;
-        Ok(Lent { path: path.to_path_buf(), most, bytes })
-    }
-
     /// What is odd about the file's length, for somebody who wonders at a refusal.
     pub fn note(&self) -> Option<String> {
-        if self.bytes.is_empty() {
+        if self.empty {
             return Some(format!("{:?} is empty", self.path));
         }
         let over = self.bytes.len() > self.most;
@@ -48,43 +137,7 @@ pub fn notes<'a>(refused: bool, files: impl IntoIterator<Item = &'a Lent>) -> Ve
     files.into_iter().filter_map(Lent::note).collect()
 }
 
-/// A file that is not there yet, in the same directory, so that renaming it is one step.
-fn beside(path: &Path) -> PathBuf {
-    let name = path.file_name().unwrap_or_default().to_string_lossy();
-    path.with_file_name(format!(".{name}.{}.new", std::process::id()))
-}
-
-fn write_new(new: &Path, old: &Path, bytes: &[u8]) -> io::Result<()> {
-    let mut file = OpenOptions::new().write(true).create_new(true).open(new)?;
-    if let Ok(metadata) = fs::metadata(old) {
-        file.set_permissions(metadata.permissions())?;
-    }
-    file.write_all(bytes)?;
-    file.sync_all()
-}
-
-/// Puts a new file in the place of an old one, or of none: written beside it, brought to the
-/// disk, then renamed. A crash leaves the old bytes or the new ones.
-fn replace_file(path: &Path, bytes: &[u8]) -> io::Result<()> {
-    // Behind a symbolic link the file is replaced, not the link.
-    let path = fs::canonicalize(path).unwrap_or_else(|_| path.to_path_buf());
-    let new = beside(&path);
-    let written = write_new(&new, &path, bytes).and_then(|()| fs::rename(&new, &path));
-    if written.is_err() {
-        let _ = fs::remove_file(&new);
-    }
-    written?;
-    match path.parent().filter(|parent| !parent.as_os_str().is_empty()) {
-        Some(parent) => File::open(parent)?.sync_all(),
-        None => File::open(".")?.sync_all(),
-    }
-}
-
-pub fn replace(path: &Path, bytes: &[u8]) -> Result<(), String> {
-    // A device or a pipe, such as /dev/stdout, is written to: it cannot be replaced.
-    let written = match fs::metadata(path) {
-        Ok(metadata) if !metadata.is_file() && !metadata.is_dir() => fs::write(path, bytes),
-        _ => replace_file(path, bytes),
-    };
-    written.map_err(|error| format!("cannot write the marks to {path:?}: {error}"))
+/// A length for a line of progress.
+pub fn mebibytes(bytes: &[u8]) -> String {
+    format!("{} MiB", bytes.len().div_ceil(1 << 20))
 }

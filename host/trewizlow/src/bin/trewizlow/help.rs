@@ -1,5 +1,9 @@
-//! The help texts.
+//! The help texts, and the commands that print them and the version.
 
+use std::ffi::OsStr;
+
+use crate::arguments::{Arguments, NO_NAMES};
+use crate::command::{self, Command};
 use crate::outcome::Outcome;
 
 pub const GENERAL: &str = "\
@@ -16,16 +20,18 @@ commands:
 
   --version  print the version
 
-exit status: 0 accepted, 1 refused, 2 usage or input error
+exit status: 0 accepted, 1 refused, 2 usage or input error. Help and version that are
+asked for exit with 0 as well.
 ";
 
-const CHECK: &str = "\
+pub const CHECK: &str = "\
 usage: trewizlow check --signature FILE --image FILE --cache FILE [OPTIONS]
 
 The whole check. Prints one line: the refusal number (0 is accepted), the place, and in
-words what failed where.
+words what failed where. All files are opened before any is read.
 
-  --signature FILE          the embedded signature (a SuperBlob)
+  --signature FILE          the embedded signature (a SuperBlob), cut out of its Mach-O
+                            file; README.md has the recipe
   --image FILE              the image; bytes past the signature's code limit are not read
   --cache FILE              the trust cache
   --info-plist FILE         the Info.plist, where there is one
@@ -35,68 +41,98 @@ words what failed where.
   --on-system-volume        launch fact
   --on-authorized-volume    launch fact
   --parent-is-init          launch fact
-  --marks OUT               write the marks, a byte a page (0 agrees, 1 differs), where the
-                            answer is 0 or 31; with any other answer OUT is left alone
-  --json                    print an object: number, place, accepted, message, marks_written
+  --marks OUT               write the marks, a byte a page (0 agrees, 1 differs), where
+                            the answer is 0 or 31; OUT is left alone otherwise
+  --json                    print an object: number, place, accepted, message,
+                            marks_written; error where the status is 2
+
+OUT is made, or replaced in one step, so that a crash leaves the old marks or the new
+ones. A file that is replaced keeps its permissions; the check waits while a recheck goes
+on from it. Behind a symbolic link the file is replaced and the link stays; under another
+hard link the old marks stay. A device or a pipe, such as /dev/stdout, is written to.
+Nothing is checked and the status is 2 where OUT is one of the files above (under any
+name), a directory, a read-only file, or a symbolic link that leads to no file. A run that
+is killed may leave a file .trewizlow-* beside OUT, which no run reads.
+
+Numbers are decimal, or hexadecimal after 0x.
 
 exit status: 0 accepted, 1 refused, 2 usage or input error
 ";
 
-const RECHECK: &str = "\
-usage: trewizlow recheck --signature FILE --start N --length N --pages FILE --marks FILE [--json]
+pub const RECHECK: &str = "\
+usage: trewizlow recheck --signature FILE --start N --length N --pages FILE --marks FILE
+                         [--json]
 
 Checks the pages that the range of N bytes from N on meets. Prints one line: the refusal
-number (0 is accepted), the place, and in words what failed where.
+number, the place, and in words what failed where. Number 0 says that no mark is 1: every
+page agrees as last examined. The trust cache is not looked at. All files are opened
+before any is read.
 
   --signature FILE   the signature of the check that wrote the marks
   --start N          where the range starts in the image
   --length N         how many bytes it has
-  --pages FILE       the new bytes of the pages met, from the start of the first to the end
-                     of the last (the image's last page is short); empty for length 0
+  --pages FILE       the new bytes of the pages met, from the start of the first to the
+                     end of the last (the image's last page is short); empty for length 0
   --marks FILE       the marks that the call before left. Brought up to date where the
-                     answer is 0 or 31: a new file takes its place at once, so that a crash
-                     leaves the old marks or the new ones
-  --json             print an object: number, place, accepted, message, marks_written
+                     answer is 0 or 31: a new file takes its place in one step, so that a
+                     crash leaves the old marks or the new ones
+  --json             print an object: number, place, pages_agree (null where the number
+                     is neither 0 nor 31), message, marks_written; error where the status
+                     is 2
+
+Rechecks that go on from one marks file wait for each other. The file keeps its
+permissions; behind a symbolic link the file is replaced and the link stays; under another
+hard link the old marks stay. Nothing is checked and the status is 2 where the marks are
+one of the files above (under any name), a read-only file, or no regular file. A run that
+is killed may leave a file .trewizlow-* beside the marks, which no run reads.
 
 Numbers are decimal, or hexadecimal after 0x.
 
-exit status: 0 every page agrees, 1 refused, 2 usage or input error
+exit status: 0 no mark is 1, 1 refused, 2 usage or input error
 ";
 
-const SHOW: &str = "\
+pub const SHOW: &str = "\
 usage: trewizlow show [--all-slots] [--json] SIGNATURE
 
 Prints the signature's blobs, and the directory's fields, slots and cdhash. A refusal is
-printed in the place of what cannot be read.
+printed in the place of what cannot be read. A Mach-O file is refused: its signature has
+to be cut out first, for which README.md has the recipe.
 
   --all-slots   print every code slot, not the first 16 alone
-  --json        print an object, every code slot included
+  --json        print an object: number, place, well_formed, message, blobs, and the
+                directory with every code slot; error where the status is 2
 
-exit status: 0 the signature is well formed (tests 1 to 18), 1 refused, 2 usage or input error
+exit status: 0 well formed (tests 1 to 18), 1 refused, 2 usage or input error
 ";
 
-const EXPLAIN: &str = "\
+pub const EXPLAIN: &str = "\
 usage: trewizlow explain [--json] [N]
 
-Prints the rule behind refusal number N, 0 to 34: when it is given, what its place means,
-which calls answer it. Without N, one line for every number.
+Prints the rule behind refusal number N: when it is given, what its place means, which
+calls answer it. Without N, one line for every number.
+
+  --json   print an object, or an array of all: number, given, place, calls; error where
+           the status is 2
 
 exit status: 0, or 2 usage error
 ";
 
-/// The help of a command; of all where the name is empty.
-pub fn of(command: &str) -> Result<Outcome, String> {
-    let text = match command {
-        "" | "help" | "--help" | "-h" | "--version" | "-V" => GENERAL,
-        "check" => CHECK,
-        "recheck" => RECHECK,
-        "show" => SHOW,
-        "explain" => EXPLAIN,
-        _ => return Err(format!("no command {command:?}; `trewizlow --help` lists the commands")),
+pub const COMMAND: Command =
+    Command { called: &["help", "--help", "-h"], names: NO_NAMES, help: GENERAL, run };
+
+pub const VERSION: Command =
+    Command { called: &["--version", "-V"], names: NO_NAMES, help: GENERAL, run: version };
+
+fn run(arguments: &Arguments) -> Result<Outcome, String> {
+    let name = match arguments.words.as_slice() {
+        [] => OsStr::new("help"),
+        [name] => name,
+        _ => return Err("help wants one command; see --help".to_string()),
     };
-    Ok(Outcome::text(text.to_string()))
+    Ok(Outcome::text(command::find(name)?.help.to_string()))
 }
 
-pub fn version() -> String {
-    format!("trewizlow {}\n", env!("CARGO_PKG_VERSION"))
+fn version(arguments: &Arguments) -> Result<Outcome, String> {
+    arguments.no_words()?;
+    Ok(Outcome::text(format!("trewizlow {}\n", env!("CARGO_PKG_VERSION"))))
 }

@@ -5,40 +5,49 @@
 
 mod arguments;
 mod check;
+mod command;
 mod explain;
+mod fault;
 mod files;
 mod help;
 mod json;
+mod macho;
+mod map;
+mod marks;
 mod outcome;
+mod progress;
 mod recheck;
+mod replace;
 mod show;
 
 use std::ffi::OsString;
 use std::process::ExitCode;
 
+use arguments::{Arguments, Part, NO_NAMES};
+use command::Command;
 use outcome::Outcome;
 
-fn command(name: &str, list: Vec<OsString>) -> Result<Outcome, String> {
-    if arguments::asks_for_help(&list) {
-        return help::of(name);
+fn run(command: Result<&Command, String>, parts: Vec<Part>) -> Result<Outcome, String> {
+    let command = command?;
+    let arguments = Arguments::read(parts)?;
+    if arguments.help {
+        return Ok(Outcome::text(command.help.to_string()));
     }
-    match name {
-        "check" => check::run(list),
-        "recheck" => recheck::run(list),
-        "show" => show::run(list),
-        "explain" => explain::run(list),
-        "--version" | "-V" => Ok(Outcome::text(help::version())),
-        "help" => help::of(&list.first().map_or("".into(), |name| name.to_string_lossy())),
-        "--help" | "-h" => help::of(""),
-        _ => Err(format!("no command {name:?}; `trewizlow --help` lists the commands")),
-    }
+    (command.run)(&arguments)
 }
 
 fn main() -> ExitCode {
-    let mut list: Vec<OsString> = std::env::args_os().skip(1).collect();
-    if list.is_empty() {
-        return Outcome::failed(format!("no command is given\n{}", help::GENERAL)).report();
-    }
-    let name = list.remove(0);
-    command(&name.to_string_lossy(), list).unwrap_or_else(Outcome::failed).report()
+    let list: Vec<OsString> = std::env::args_os().skip(1).collect();
+    let Some((name, rest)) = list.split_first() else {
+        let sentence = format!("no command is given\n{}", help::GENERAL);
+        return Outcome::failed(sentence, false).report();
+    };
+    let command = command::find(name);
+    let parts = match &command {
+        Ok(command) => arguments::parts(rest, &command.names),
+        Err(_) => arguments::parts(&list, &NO_NAMES),
+    };
+    let json = arguments::wants_json(&parts);
+    fault::answer_in_json(json);
+    run(command, parts).unwrap_or_else(|sentence| Outcome::failed(sentence, json)).report()
 }

@@ -3,12 +3,15 @@
 use std::io::{self, ErrorKind, Write};
 use std::process::ExitCode;
 
+use crate::json;
+
 const REFUSED: u8 = 1;
-const FAILED: u8 = 2;
+pub const FAILED: u8 = 2;
 
 pub struct Outcome {
     pub text: String,
-    pub accepted: bool,
+    /// The library said 0, or was not asked.
+    pub passed: bool,
     /// Remarks that change nothing.
     pub notes: Vec<String>,
     /// A usage or input error.
@@ -16,7 +19,7 @@ pub struct Outcome {
 }
 
 /// Standard error may be closed; there is nobody to tell then.
-pub fn tell(line: &str) {
+fn tell(line: &str) {
     let _ = writeln!(io::stderr(), "trewizlow: {}", line.trim_end());
 }
 
@@ -33,11 +36,14 @@ fn print(text: &str) -> Result<(), String> {
 
 impl Outcome {
     pub fn text(text: String) -> Outcome {
-        Outcome { text, accepted: true, notes: Vec::new(), failure: None }
+        Outcome { text, passed: true, notes: Vec::new(), failure: None }
     }
 
-    pub fn failed(failure: String) -> Outcome {
-        Outcome { failure: Some(failure), ..Outcome::text(String::new()) }
+    /// Nothing was answered. In JSON the sentence stands on standard output too.
+    pub fn failed(sentence: String, json: bool) -> Outcome {
+        let object = || json::object(&[json::error(&sentence)]) + "\n";
+        let text = if json { object() } else { String::new() };
+        Outcome { failure: Some(sentence), ..Outcome::text(text) }
     }
 
     /// Prints everything and gives the exit status.
@@ -48,7 +54,7 @@ impl Outcome {
             tell(&failure);
             return ExitCode::from(FAILED);
         }
-        if self.accepted {
+        if self.passed {
             ExitCode::SUCCESS
         } else {
             ExitCode::from(REFUSED)

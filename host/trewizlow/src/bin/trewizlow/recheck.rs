@@ -1,43 +1,76 @@
 //! `trewizlow recheck`.
 
-use std::ffi::OsString;
-
 use trewizlow::{read, recheck, Answer, MOST_PAGES, MOST_SIGNATURE_BYTES};
 
 use crate::arguments::{Arguments, Names};
-use crate::files::{notes, replace, Lent};
+use crate::command::Command;
+use crate::files::{mebibytes, notes, Opened};
+use crate::help;
 use crate::json;
+use crate::macho;
+use crate::marks::{self, Held};
 use crate::outcome::Outcome;
+use crate::progress::during;
 
-const NAMES: Names =
-    Names { valued: &["--signature", "--start", "--length", "--pages", "--marks"], flags: &[] };
+pub const COMMAND: Command = Command {
+    called: &["recheck"],
+    names: Names {
+        valued: &["--signature", "--start", "--length", "--pages", "--marks"],
+        flags: &[],
+    },
+    help: help::RECHECK,
+    run,
+};
 
-fn text(answer: &Answer, json: bool) -> String {
-    if !json {
-        return format!("{answer}\n");
-    }
-    let mut members = json::answer(answer.number, answer.place, &answer.sentence());
-    members.push(("marks_written", answer.wrote_marks().to_string()));
-    json::object(&members) + "\n"
+const AGREE: &str = "no mark is 1 (every page agrees as last examined); the trust cache was not \
+                     looked at";
+
+/// True or false where the answer speaks of all marks; null where the call was refused before.
+fn pages_agree(answer: &Answer) -> String {
+    let spoken = answer.wrote_marks().then(|| answer.accepted().to_string());
+    spoken.unwrap_or("null".to_string())
 }
 
-pub fn run(list: Vec<OsString>) -> Result<Outcome, String> {
-    let arguments = Arguments::read(list, &NAMES)?;
+fn text(answer: &Answer, written: &Result<bool, String>, json: bool) -> String {
+    let sentence = if answer.accepted() { AGREE.to_string() } else { answer.sentence() };
+    if json {
+        let agree = ("pages_agree", pages_agree(answer));
+        let mut members = json::answer(answer.number, answer.place, agree, &sentence);
+        members.extend(json::marks(written));
+        return json::object(&members) + "\n";
+    }
+    if answer.accepted() {
+        return format!("{} {} pages agree: {sentence}\n", answer.number, answer.place);
+    }
+    format!("{answer}\n")
+}
+
+fn run(arguments: &Arguments) -> Result<Outcome, String> {
     arguments.no_words()?;
     let start = arguments.wanted_number("--start", u64::MAX)?;
     let length = arguments.wanted_number("--length", u64::MAX)?;
-    let signature = Lent::read(arguments.wanted_path("--signature")?, MOST_SIGNATURE_BYTES)?;
-    // No pages have more bytes than the code limit; one more byte is refused as any more are.
-    let code_limit = read(&signature.bytes).code_limit;
-    let pages = Lent::read(arguments.wanted_path("--pages")?, code_limit)?;
+    let signature = arguments.wanted_path("--signature")?;
+    let pages = arguments.wanted_path("--pages")?;
     let path = arguments.wanted_path("--marks")?;
-    let mut marks = Lent::read(path, MOST_PAGES)?;
-    let answer = recheck(&signature.bytes, start, length, &pages.bytes, &mut marks.bytes);
-    let mut outcome = Outcome::text(text(&answer, arguments.json()));
-    outcome.accepted = answer.accepted();
-    outcome.notes = notes(!answer.wrote_marks(), [&signature, &pages, &marks]);
-    if answer.wrote_marks() {
-        outcome.failure = replace(path, &marks.bytes).err();
-    }
-    Ok(outcome)
+    let (signature, pages) = (Opened::new(signature)?, Opened::new(pages)?);
+    marks::examine(path, &[&signature, &pages])?;
+    let signature = signature.read(MOST_SIGNATURE_BYTES)?;
+    let pages = pages.pages(read(&signature.bytes).code_limit)?;
+    let held = Held::new(path)?;
+    let old = held.read(MOST_PAGES)?;
+    let mut marks = old.bytes.to_vec();
+    let what = format!("rechecking {}", mebibytes(&pages.bytes));
+    let call = || recheck(&signature.bytes, start, length, &pages.bytes, &mut marks);
+    let answer = during(&what, call);
+    let written =
+        if answer.wrote_marks() { held.replace(&marks).map(|()| true) } else { Ok(false) };
+    let refused = !answer.wrote_marks();
+    let mut notes = notes(refused, [&signature, &pages, &old]);
+    notes.extend(macho::note(&signature).filter(|_| refused));
+    Ok(Outcome {
+        text: text(&answer, &written, arguments.json()),
+        passed: answer.accepted(),
+        notes,
+        failure: written.err(),
+    })
 }

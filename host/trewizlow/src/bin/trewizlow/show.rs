@@ -4,17 +4,24 @@ mod names;
 mod object;
 mod table;
 
-use std::ffi::OsString;
 use std::path::Path;
 
 use trewizlow::{cdhash, find, read, Answer, Blob, CdHash, Directory, MOST_SIGNATURE_BYTES};
 
 use crate::arguments::{Arguments, Names};
-use crate::files::{notes, Lent};
+use crate::command::Command;
+use crate::files::{notes, Opened};
+use crate::help;
+use crate::macho;
 use crate::outcome::Outcome;
 use names::BLOBS;
 
-const NAMES: Names = Names { valued: &[], flags: &["--all-slots"] };
+pub const COMMAND: Command = Command {
+    called: &["show"],
+    names: Names { valued: &[], flags: &["--all-slots"] },
+    help: help::SHOW,
+    run,
+};
 
 /// Bytes of a slot.
 const SLOT: usize = 32;
@@ -64,19 +71,19 @@ fn hex(bytes: &[u8]) -> String {
     bytes.iter().map(|byte| format!("{byte:02x}")).collect()
 }
 
-pub fn run(list: Vec<OsString>) -> Result<Outcome, String> {
-    let arguments = Arguments::read(list, &NAMES)?;
+fn run(arguments: &Arguments) -> Result<Outcome, String> {
     let [path] = arguments.words.as_slice() else {
         return Err("show wants one signature file; see --help".to_string());
     };
-    let file = Lent::read(Path::new(path), MOST_SIGNATURE_BYTES)?;
+    let file = Opened::new(Path::new(path))?.read(MOST_SIGNATURE_BYTES)?;
     let shown = Shown::new(&file.bytes);
     let text = if arguments.json() {
         object::text(&shown)
     } else {
         table::text(&shown, arguments.flag("--all-slots"))
     };
-    let accepted = shown.answer().accepted();
-    let notes = notes(!accepted, [&file]);
-    Ok(Outcome { accepted, notes, ..Outcome::text(text) })
+    let passed = shown.answer().accepted();
+    let mut notes = notes(!passed, [&file]);
+    notes.extend(macho::note(&file));
+    Ok(Outcome { passed, notes, ..Outcome::text(text) })
 }

@@ -3,9 +3,13 @@
 use super::{hex, Shown};
 use crate::json::{answer, array, object, string};
 
+const WELL_FORMED: &str = "the signature is well formed: tests 1 to 18 pass";
+
 pub fn text(shown: &Shown) -> String {
     let said = shown.answer();
-    let mut members = answer(said.number, said.place, &said.sentence());
+    let well_formed = ("well_formed", said.accepted().to_string());
+    let sentence = if said.accepted() { WELL_FORMED.to_string() } else { said.sentence() };
+    let mut members = answer(said.number, said.place, well_formed, &sentence);
     members.push(("blobs", blobs(shown)));
     if said.accepted() {
         members.push(("directory", directory(shown)));
