@@ -3,7 +3,8 @@
 use Prim.Native.Nat.{ℕ}
 use mathlib.Core.Bool.{Bool, true, false, cond}
 use mathlib.Core.List.{List, []}
-use lib.ListN.{length}
+use mathlib.Core.Path.{_≡_}
+use lib.ListN.{length, take}
 use lib.Dec.{ltb}
 use Rattle.refusals.specs.Refusals.{_≡?_, pick, accepted, first}
 use Rattle.layout.specs.CodeDirectory.{nCodeSlots}
@@ -64,3 +65,20 @@ judged (has bytes) rest = rest bytes
 unfoldable pub smallLine : File → File → File → Line
 smallLine signature image cache =
     judged signature (λ s. judged image (λ i. judged cache (λ c. Answered (smallVerdict s i c))))
+
+-- the line is said of the first bytes of three buffers, each with whether its file was there; what a file holds no contract knows
+pub record SaidIn (signature image cache : List ℕ) (line : Line) : Type 0 where
+  pub signatureThere : Bool
+  pub signatureLength : ℕ
+  pub imageThere : Bool
+  pub imageLength : ℕ
+  pub cacheThere : Bool
+  pub cacheLength : ℕ
+  pub said : line ≡ smallLine (fileOf mostSignatureFile signatureThere (take signatureLength signature)) (fileOf mostImageFile imageThere (take imageLength image)) (fileOf mostCacheFile cacheThere (take cacheLength cache))
+
+-- the line is said of some three files
+pub record Said (line : Line) : Type 0 where
+  pub signature : File
+  pub image : File
+  pub cache : File
+  pub said : line ≡ smallLine signature image cache

@@ -8,6 +8,13 @@ use Rattle.admission.specs.declared.Verdict.{Verdict}
 use Rattle.admit_run.specs.declared.Line.{Line}
 use Rattle.admit_run.specs.declared.Line.the-variants.{NoFile, TooLong, Answered}
 
+-- the most digits of a number of 64 bits, and the most bytes of a line: two numbers, a space and a newline
+abbrev pub mostDigits : ℕ
+mostDigits = 20
+
+abbrev pub longestLine : ℕ
+longestLine = 42
+
 -- the bytes are the number's decimal digits, as few as hold it
 pub record Decimal (n : ℕ) (bytes : List ℕ) : Type 0 where
   pub places : ℕ

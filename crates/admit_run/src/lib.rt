@@ -13,7 +13,7 @@ ghost use mathlib.Core.Path.{_≡_};
 ghost use Prim.Native.Nat.{_<_, _≤_};
 ghost use lib.ListN.{length};
 ghost use Rattle.directory.specs.Rows.{mostPages};
-ghost use Rattle.admit_run.specs.Small.{mostSignatureFile, mostImageFile, mostCacheFile, fileOf, smallLine, marksWanted, smallVerdict};
+ghost use Rattle.admit_run.specs.Small.{mostSignatureFile, mostImageFile, mostCacheFile, fileOf, smallLine, marksWanted, smallVerdict, SaidIn, Said};
 
 // The most bytes of each file.
 const SIGNATURE_MOST: usize = 16384;
@@ -21,6 +21,15 @@ const SIGNATURE_MOST: usize = 16384;
 const IMAGE_MOST: usize = 32768;
 
 const CACHE_MOST: usize = 16384;
+
+// Room for one byte more than each file may have, so that one that is too long shows, and for the marks of every directory that passes.
+const SIGNATURE_ROOM: usize = SIGNATURE_MOST + 1;
+
+const IMAGE_ROOM: usize = IMAGE_MOST + 1;
+
+const CACHE_ROOM: usize = CACHE_MOST + 1;
+
+const MARKS_ROOM: usize = 65536;
 
 // What the program says: that a file is not there, that one is too long, or the verdict.
 pub enum Line {
@@ -63,7 +72,7 @@ fn line_of(
     Line::Answered(admit(signature, image, cache, marks))
 }
 
-// The whole check of three files. There is room for the marks of every directory that passes.
+// The whole check of three files.
 fn admit(signature: &[u8], image: &[u8], cache: &[u8], marks: &mut [u8]) -> Verdict
     requires { ⌜ mostPages ≤ length (now marks) ⌝ }
     ensures { λ r. ⌜ r ≡ smallVerdict (now (signature .entry)) (now (image .entry)) (now (cache .entry)) ⌝ }
@@ -99,7 +108,7 @@ fn marks_wanted(signature: &[u8]) -> usize
     CodeDirectory::read(superblob::blob_of(signature, CodeDirectory::TYPE)).code_slots
 }
 
-// What is said of the files of three names, which are read into buffers longer than each file may be, so that one that is too long shows.
+// What is said of the files of three names, which are read into the buffers.
 fn read_and_say(
     signature_name: &[u8],
     signature: &mut [u8],
@@ -111,6 +120,7 @@ fn read_and_say(
 ) -> Line
     requires { ⌜ (mostSignatureFile < length (now signature)) × (mostImageFile < length (now image)) × (mostCacheFile < length (now cache)) ⌝ }
     requires { ⌜ mostPages ≤ length (now marks) ⌝ }
+    ensures { λ r. ⌜ SaidIn (now (signature .exit)) (now (image .exit)) (now (cache .exit)) r ⌝ }
 {
     let first = load(signature_name, signature);
     let second = load(image_name, image);
@@ -130,11 +140,13 @@ fn read_and_say(
 }
 
 // What the program says of the files of three names.
-pub fn answer(signature_name: &[u8], image_name: &[u8], cache_name: &[u8]) -> Line {
-    let mut signature = [0u8; 16385];
-    let mut image = [0u8; 32769];
-    let mut cache = [0u8; 16385];
-    let mut marks = [0u8; 65536];
+pub fn answer(signature_name: &[u8], image_name: &[u8], cache_name: &[u8]) -> Line
+    ensures { λ r. ⌜ Said r ⌝ }
+{
+    let mut signature = [0u8; SIGNATURE_ROOM];
+    let mut image = [0u8; IMAGE_ROOM];
+    let mut cache = [0u8; CACHE_ROOM];
+    let mut marks = [0u8; MARKS_ROOM];
     read_and_say(
         signature_name,
         &mut signature,

@@ -5,7 +5,7 @@ ghost use mathlib.Core.Path.{_≡_};
 ghost use mathlib.Core.List.{_++_};
 ghost use Prim.Native.Nat.{_+_, _≤_};
 ghost use lib.ListN.{length, take};
-ghost use Rattle.admit_run.specs.Text.{Text, NumberAndPlace, WroteNumber};
+ghost use Rattle.admit_run.specs.Text.{mostDigits, longestLine, Text, NumberAndPlace, WroteNumber};
 
 // Puts bytes behind the first `at` of a buffer, and answers where they end.
 fn put(bytes: &[u8], out: &mut [u8], at: usize) -> usize
@@ -21,10 +21,10 @@ fn put(bytes: &[u8], out: &mut [u8], at: usize) -> usize
     at + i
 }
 
-// Puts a number's digits there; there are at most 20.
+// Puts a number's digits there.
 fn put_number(n: u64, out: &mut [u8], at: usize) -> usize
-    requires { ⌜ at + 20 ≤ length (now out) ⌝ }
-    ensures { λ r. ⌜ r ≤ at + 20 ⌝ }
+    requires { ⌜ at + mostDigits ≤ length (now out) ⌝ }
+    ensures { λ r. ⌜ r ≤ at + mostDigits ⌝ }
     ensures { λ r. ⌜ WroteNumber n (now (out .entry)) at (now (out .exit)) r ⌝ }
 {
     let mut digits = [0u8; 20];
@@ -34,7 +34,7 @@ fn put_number(n: u64, out: &mut [u8], at: usize) -> usize
 
 // Puts number, space, place and newline at the start of a buffer, and answers where they end.
 fn put_verdict(verdict: Verdict, out: &mut [u8]) -> usize
-    requires { ⌜ 42 ≤ length (now out) ⌝ }
+    requires { ⌜ longestLine ≤ length (now out) ⌝ }
     ensures { λ r. ⌜ r ≤ length (now (out .exit)) ⌝ }
     ensures { λ r. ⌜ NumberAndPlace verdict (take r (now (out .exit))) ⌝ }
 {
@@ -46,7 +46,7 @@ fn put_verdict(verdict: Verdict, out: &mut [u8]) -> usize
 
 // Puts a line at the start of a buffer, and answers where it ends.
 pub fn put_line(line: Line, out: &mut [u8]) -> usize
-    requires { ⌜ 42 ≤ length (now out) ⌝ }
+    requires { ⌜ longestLine ≤ length (now out) ⌝ }
     ensures { λ r. ⌜ r ≤ length (now (out .exit)) ⌝ }
     ensures { λ r. ⌜ Text line (take r (now (out .exit))) ⌝ }
 {

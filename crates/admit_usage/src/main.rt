@@ -1,4 +1,4 @@
-// Document 01's small program without its arguments.
+// Document 01's small program, asked with one argument too many.
 fn main() {
     admit_run::run();
 }

@@ -13,6 +13,11 @@ use operations::perform;
 // Room for a signature or a side file of one byte more than test 1 allows, and for all other fields.
 const ARENA: usize = 4456449;
 
+// Room for a file, of which one byte stays free, and for the marks of a case.
+const FILE: usize = 524288;
+
+const MOST_MARKS: usize = 64;
+
 // A case that was run: where the file goes on, 0 where it is broken.
 fn run_case(
     file: &[u8],
@@ -112,9 +117,9 @@ fn run_arguments(
 }
 
 fn run_in(arena: &mut [u8; ARENA]) {
-    let mut file = [0u8; 524288];
+    let mut file = [0u8; FILE];
     let mut places = [0usize; PLACES];
-    let mut marks = [0u8; 64];
+    let mut marks = [0u8; MOST_MARKS];
     run_arguments(&mut file, arena, &mut places, &mut marks);
 }
 

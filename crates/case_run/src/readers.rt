@@ -1,5 +1,9 @@
 // The exported readers of a signature, with every field of what they return.
+use trewizlow::BlobPart;
 use trewizlow::DirectoryFields;
+
+// How many fields trewizlow_read returns behind number and place.
+const FIELDS: usize = 15;
 
 // Prints trewizlow_read's answer and fields, trewizlow_cdhash's answer and hash, and trewizlow_find's answer with the blobs that it
 // finds of each type in the list.
@@ -24,7 +28,7 @@ fn wide(x: u8) -> usize {
 }
 
 // The fields in the order of the C interface.
-fn fields(read: DirectoryFields) -> [usize; 15] {
+fn fields(read: DirectoryFields) -> [usize; FIELDS] {
     [
         read.start,
         read.length,
@@ -45,22 +49,22 @@ fn fields(read: DirectoryFields) -> [usize; 15] {
 }
 
 // ` A B ..`, or ` -` where every field is 0.
-fn print_fields(fields: &[usize; 15]) {
+fn print_fields(fields: &[usize; FIELDS]) {
     if !some_field(fields) {
         io::write_all(1, b" -");
         return;
     }
     let mut i: usize = 0;
-    while i < 15 {
+    while i < FIELDS {
         corpus::print(b" ", fields[i]);
         i += 1;
     }
 }
 
 // Whether a field is not 0.
-fn some_field(fields: &[usize; 15]) -> bool {
+fn some_field(fields: &[usize; FIELDS]) -> bool {
     let mut i: usize = 0;
-    while i < 15 {
+    while i < FIELDS {
         if fields[i] != 0 {
             return true;
         }
@@ -98,23 +102,38 @@ fn some_byte(hash: &[u8; 20]) -> bool {
     false
 }
 
-// The types are 4 bytes each. The answer is the same for every type, and is printed before the first.
+// The types are 4 bytes each. The answer is that of the first lookup; it is printed again where a later one answers otherwise.
 fn print_finds(sig: &[u8], types: &[u8]) {
+    if types.len() < 4 {
+        return;
+    }
+    let first = find(sig, endian::be32(types, 0, 0));
+    let number = first.number;
+    let place = first.place;
+    print_answer(number, place);
     let mut i: usize = 0;
     while i < types.len() / 4 {
-        print_find(sig, endian::be32(types, 0, 4 * i), i == 0);
+        print_find(sig, endian::be32(types, 0, 4 * i), number, place);
         i += 1;
     }
 }
 
-// ` TYPE:START+LENGTH`, where a blob of the type is found.
-fn print_find(sig: &[u8], slot_type: usize, opening: bool) {
-    let found = trewizlow::trewizlow_find(sig, (slot_type % 4294967296) as u32);
-    if opening {
-        io::write_all(1, b" ");
-        corpus::print_answer(found.number, found.place);
+fn find(sig: &[u8], slot_type: usize) -> BlobPart {
+    trewizlow::trewizlow_find(sig, (slot_type % 4294967296) as u32)
+}
+
+fn print_answer(number: u32, place: usize) {
+    io::write_all(1, b" ");
+    corpus::print_answer(number, place);
+}
+
+// ` TYPE:START+LENGTH`, where one of the two is not 0; before it the answer, where it is not the one given.
+fn print_find(sig: &[u8], slot_type: usize, number: u32, place: usize) {
+    let found = find(sig, slot_type);
+    if found.number != number || found.place != place {
+        print_answer(found.number, found.place);
     }
-    if found.length == 0 {
+    if found.start == 0 && found.length == 0 {
         return;
     }
     corpus::print(b" ", slot_type);

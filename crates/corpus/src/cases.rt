@@ -3,8 +3,7 @@
 // the arena at that start, and the field is the part of the arena that it fills. A field that a case does not name stays as the cases
 // before it left it, and fields may share bytes.
 use crate::items::expand;
-ghost use mathlib.Core.Path.{_≡_};
-ghost use Prim.Native.Nat.{_+_, _<_, _≤_};
+ghost use Prim.Native.Nat.{_≤_};
 ghost use lib.ListN.{length};
 
 const FIELDS: usize = 16;

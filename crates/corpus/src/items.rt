@@ -69,10 +69,16 @@ fn number(file: &[u8], from: usize, out: &mut [u8], to: usize, n: usize)
     }
 }
 
+fn made(next: usize, to: usize) -> Step
+    ensures { λ r. ⌜ (r .next ≡ next) × (r .to ≡ to) ⌝ }
+{
+    Step { next, to }
+}
+
 fn broken() -> Step
     ensures { λ r. ⌜ (r .next ≡ 0) × (r .to ≡ 0) ⌝ }
 {
-    Step { next: 0, to: 0 }
+    made(0, 0)
 }
 
 // Expands the segment at `at` into the buffer from `to` on, which ends at `end`.
@@ -108,34 +114,22 @@ fn make_segment(file: &[u8], from: usize, out: &mut [u8], to: usize, n: usize) -
                 return broken();
             }
             copy(file, from, out, to, n);
-            Step {
-                next: from + n,
-                to: after,
-            }
+            made(from + n, after)
         }
         1 => {
             if left < 1 {
                 return broken();
             }
             fill(out, to, n, file[from]);
-            Step {
-                next: from + 1,
-                to: after,
-            }
+            made(from + 1, after)
         }
-        2 => Step {
-            next: from,
-            to: after,
-        },
+        2 => made(from, after),
         3 => {
             if left < RECORD {
                 return broken();
             }
             number(file, from, out, to, n);
-            Step {
-                next: from + RECORD,
-                to: after,
-            }
+            made(from + RECORD, after)
         }
         _ => broken(),
     }

@@ -5,7 +5,6 @@ use Rattle.admit_run.specs.declared.Line.the-variants.{Answered}
 use Rattle.admit_run.specs.Small.{smallLine}
 use Rattle.admit_run.proofs.Laws.{judged-missing, judged-long, judged-has}
 use borrow.Author.Needs.{needs}
-use borrow.Author.Needs.{needs}
 use Rattle.admit_run.proofs.line_of.Statement.{statement}
 use Rattle.admit_run.proofs.line_of.Tie as tie
 
