@@ -5,9 +5,11 @@
  * The library keeps no state, allocates nothing and calls nothing back; calls on different
  * threads are independent of each other.
  *
- * Answers. `number` 0 is accepted; 1 to 34 are the refusals, each given exactly when its
- * condition is the first to hold. `place` says where: an index position, a special slot, a
- * cache entry, a category or a page, and 0 where the number names no place.
+ * Answers. `number` 0 of the whole check says that the image may run. Of any other call it
+ * says that every test of that call passes, and not that the image may run. 1 to 34 are the
+ * refusals, each given exactly when its condition is the first to hold. `place` says where:
+ * an index position, a special slot, a cache entry, a category or a page, and 0 where the
+ * number names no place.
  *
  * Buffers. Each is a pointer and a length in bytes. A pointer must not be null, even with
  * length 0: pass any other pointer then. Any bytes and any lengths may be lent. `marks` is
@@ -19,8 +21,9 @@
  * Values. A bool that is lent is 0 or 1; with any other value in its byte the call is
  * undefined. Padding bytes of a struct are unspecified: compare fields, not structs.
  *
- * Targets. The archive is for x86-64 Linux, the only target that the kit compiles for. This
- * file was tried there with gcc 12 and clang 14, as C99, C11, C17, C++11, C++17 and C++20.
+ * Targets. The archive is for x86-64 Linux, the only target that the kit compiles for. The
+ * tests compile this file there as C99, C11, C17, C++11, C++17 and C++20, with `cc` and `c++`
+ * and, where it is installed, with clang; it was tried with gcc 12 and clang 14.
  * From C11 and C++11 on it does not compile where a struct is laid out otherwise.
  */
 #ifndef TREWIZLOW_H

@@ -2,12 +2,12 @@
 //! same work.
 
 use bench::checker;
+use compare::facts;
 use corpora::cases::checks::{cases, Call, Kind};
 use corpora::cases::signatures;
 use reference::check::{check, Lent};
 use reference::recheck::{recheck, Range};
 use reference::slots::SideFiles;
-use trewizlow::Launch;
 
 fn reference_says(call: &Call, marks: &mut [u8]) -> (u32, u64) {
     let files = SideFiles { info: call.info.lent(), resources: call.resources.lent() };
@@ -36,13 +36,7 @@ fn checker_says(call: &Call, marks: &mut [u8]) -> (u32, u64) {
         cache: &call.cache,
         info_plist: call.info.lent(),
         code_resources: call.resources.lent(),
-        launch: Launch {
-            on_authorized_volume: call.launch.on_authorized_volume,
-            on_system_volume: call.launch.on_system_volume,
-            launch_type: call.launch.launch_type,
-            validation_category: call.launch.validation_category,
-            parent_is_init: call.launch.parent_is_init,
-        },
+        launch: facts(&call.launch),
     };
     let verdict = checker::check(&lent, marks);
     (verdict.number, verdict.place as u64)

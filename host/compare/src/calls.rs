@@ -6,6 +6,7 @@ use reference::inputs::Inputs;
 use reference::recheck::Range;
 
 use crate::difference::{hex_line, word_line};
+use crate::types::facts;
 
 /// What the two say to one call.
 pub struct Said {
@@ -38,16 +39,6 @@ fn guarded<T>(marks: &[u8], call: impl FnOnce(&mut [u8]) -> T) -> (T, Written) {
     (said, Written { marks: buffer[inside].to_vec(), guards_kept })
 }
 
-fn launch(inputs: &Inputs) -> trewizlow::Launch {
-    trewizlow::Launch {
-        on_authorized_volume: inputs.launch.on_authorized_volume,
-        on_system_volume: inputs.launch.on_system_volume,
-        launch_type: inputs.launch.launch_type,
-        validation_category: inputs.launch.validation_category,
-        parent_is_init: inputs.launch.parent_is_init,
-    }
-}
-
 /// `NUMBER PLACE`, and a sentence where the table does not have the number.
 pub fn number_and_place(number: u32, place: u64) -> String {
     let unknown = if NUMBERS.contains(&number) { "" } else { " (no number of the table)" };
@@ -72,7 +63,7 @@ pub fn check(inputs: &Inputs, marks: &[u8]) -> (Said, Answer, Vec<u8>) {
         cache: &inputs.cache,
         info_plist: inputs.info.as_deref(),
         code_resources: inputs.resources.as_deref(),
-        launch: launch(inputs),
+        launch: facts(&inputs.launch),
     };
     let (verdict, written) = guarded(marks, |marks| trewizlow::check(&lent, marks));
     let said = Said {

@@ -11,6 +11,8 @@ mod lookups;
 mod plan;
 mod run;
 mod scene;
+mod types;
 
 pub use difference::Difference;
 pub use run::{run, run_case, Counts};
+pub use types::{facts, fields};

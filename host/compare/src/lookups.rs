@@ -5,6 +5,7 @@ use reference::directory;
 use reference::superblob;
 
 use crate::calls::{number_and_place, Said};
+use crate::types::fields;
 
 /// The lookup of a type by both.
 pub fn find(signature: &[u8], kind: u32) -> Said {
@@ -27,41 +28,22 @@ pub fn find(signature: &[u8], kind: u32) -> Said {
     }
 }
 
-/// The library's fields in the order of the C interface.
-fn library_fields(d: &trewizlow::Directory) -> [u64; 15] {
-    [
-        d.start as u64,
-        d.length as u64,
-        d.version.into(),
-        d.flags.into(),
-        d.hash_offset.into(),
-        d.ident_offset.into(),
-        d.special_slots.into(),
-        d.code_slots.into(),
-        d.hash_size.into(),
-        d.hash_type.into(),
-        d.platform.into(),
-        d.page_shift.into(),
-        d.code_limit as u64,
-        d.page_size as u64,
-        d.ident_length as u64,
-    ]
-}
-
 /// The directory's fields by both; every one 0 where refused.
 pub fn read(signature: &[u8]) -> Said {
     let ours = trewizlow::read(signature);
     let theirs = directory::read(signature, false);
     let answer = theirs.err().unwrap_or(DONE);
-    let fields = theirs.map_or([0; 15], |directory| directory.fields());
-    let text = |answer, fields| format!("{answer}: {fields:?}");
+    let text = |answer, fields: [u64; 15]| format!("{answer}: {fields:?}");
     Said {
         call: "the directory's fields".to_string(),
         library: text(
             number_and_place(ours.answer.number, ours.answer.place as u64),
-            library_fields(&ours),
+            fields(&ours),
         ),
-        reference: text(number_and_place(answer.number, answer.place), fields),
+        reference: text(
+            number_and_place(answer.number, answer.place),
+            theirs.map_or([0; 15], |directory| directory.fields()),
+        ),
     }
 }
 

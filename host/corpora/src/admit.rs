@@ -10,10 +10,16 @@ use crate::case::{operation, Case, CACHE, IMAGE, SIGNATURE};
 
 /// The three files of the accepted run, by name.
 pub const ACCEPTED: [&str; 3] = ["signature", "image", "cache"];
+/// The arguments of the run that prints the usage: one too many.
+pub const TOO_MANY: [&str; 4] = ["one", "two", "three", "four"];
+/// What it prints.
+pub const USAGE: &str = "usage: admit SIGNATURE IMAGE CACHE\n";
 /// A file name that no file has.
 const MISSING: &str = "missing";
 /// A directory: where the program runs.
 const DIRECTORY: &str = ".";
+/// The longest cache that is well formed: one entry more is over the limit.
+const LONGEST_CACHE: &str = "cache-16368";
 /// Files that are one byte over the limit, in the program's order.
 const TOO_LONG: [&str; 3] = ["signature-16385", "image-32769", "cache-16385"];
 
@@ -72,7 +78,7 @@ pub fn files() -> Vec<(&'static str, Vec<u8>)> {
         ("cache-uncovered", uncovered.cache),
         ("cache-constrained", constrained.cache),
         ("cache-no-code", no_code.cache),
-        ("cache-16368", longest_cache()),
+        (LONGEST_CACHE, longest_cache()),
         ("cache-16384", padded(&good.cache, CACHE_MOST)),
         (long_cache, padded(&good.cache, CACHE_MOST + 1)),
         ("signature", good.signature),
@@ -139,17 +145,18 @@ fn refused(runs: &mut Runs) {
     runs.replaced("page 1 changed", &[(1, "image-changed")]);
 }
 
-/// At each limit, and one byte over.
+/// At each limit, one byte over, and the longest that are accepted.
 fn limits(runs: &mut Runs) {
-    let most = ["signature-16384", "image-32768", "cache-16368"];
-    runs.add("every file at its limit", most);
-    for (position, file) in most.into_iter().enumerate() {
+    let at_the_limit = ["signature-16384", "image-32768", "cache-16384"];
+    for (position, file) in at_the_limit.into_iter().enumerate() {
         runs.replaced(format!("{file} at the limit"), &[(position, file)]);
     }
-    runs.replaced("cache-16384 padded", &[(2, "cache-16384")]);
     for (position, file) in TOO_LONG.into_iter().enumerate() {
         runs.replaced(format!("{file} over the limit"), &[(position, file)]);
     }
+    let [signature, image, _] = at_the_limit;
+    runs.replaced("longest cache that is well formed", &[(2, LONGEST_CACHE)]);
+    runs.add("longest files that are accepted", [signature, image, LONGEST_CACHE]);
 }
 
 /// A way in which a file is bad, with the file of each position.

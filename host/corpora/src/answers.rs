@@ -11,7 +11,7 @@ use reference::directory;
 use reference::launch::{self, Launch};
 use reference::recheck::{recheck, Range};
 use reference::slots::{self, SideFiles};
-use reference::superblob;
+use reference::superblob::{self, Found};
 
 use crate::case::{
     operation, Fields, CACHE, FACTS, HASH, IMAGE, INFO, RANGE, RESOURCES, SIGNATURE, TYPES,
@@ -65,18 +65,23 @@ fn signature(signature: &[u8], types: &[u8]) -> (Answer, String) {
     (answer, format!("{number} | {fields} | {number} {hash} |{found}"))
 }
 
-/// ` NUMBER PLACE` and ` TYPE:START+LENGTH` for each type that is found; nothing without
-/// types.
+/// The types that are looked up, each with what is found.
 fn lookups(signature: &[u8], types: &[u8]) -> String {
+    let kinds = (0..types.len() as u64).step_by(4).map(|at| be32(types, at));
+    let found: Vec<_> = kinds.map(|kind| (kind, superblob::find(signature, kind))).collect();
+    lookup_line(&found)
+}
+
+/// ` NUMBER PLACE`, again before a type that is answered otherwise than the first one, and
+/// ` TYPE:START+LENGTH` for each type where one of the two is not 0; nothing without types.
+fn lookup_line(found: &[(u64, Found)]) -> String {
     let mut line = String::new();
-    for at in (0..types.len() as u64).step_by(4) {
-        let kind = be32(types, at);
-        let found = superblob::find(signature, kind);
-        if at == 0 {
-            write!(line, " {}", text(found.answer)).unwrap();
+    for (i, (kind, Found { answer, start, length })) in found.iter().enumerate() {
+        if i == 0 || *answer != found[0].1.answer {
+            write!(line, " {}", text(*answer)).unwrap();
         }
-        if found.length > 0 {
-            write!(line, " {kind}:{}+{}", found.start, found.length).unwrap();
+        if (*start, *length) != (0, 0) {
+            write!(line, " {kind}:{start}+{length}").unwrap();
         }
     }
     line
@@ -133,4 +138,28 @@ fn whole_check(fields: &Fields, marks: &mut [u8]) -> Answer {
 fn range_check(fields: &Fields, marks: &mut [u8]) -> Answer {
     let (start, length) = (be64(fields[RANGE], 0), be64(fields[RANGE], 8));
     recheck(fields[SIGNATURE], &Range { start, length, bytes: fields[IMAGE] }, marks)
+}
+
+#[cfg(test)]
+mod tests {
+    use super::*;
+
+    fn found(number: u32, place: u64, start: u64, length: u64) -> Found {
+        Found { answer: Answer { number, place }, start, length }
+    }
+
+    /// What the reference never says shows as well: a start without a length, a later type
+    /// that is answered otherwise.
+    #[test]
+    fn every_field_of_a_lookup_is_printed() {
+        assert_eq!(lookup_line(&[]), "");
+        let usual = [(0, found(0, 0, 52, 9)), (2, found(0, 0, 0, 0)), (5, found(0, 0, 61, 8))];
+        assert_eq!(lookup_line(&usual), " 0 0 0:52+9 5:61+8");
+        let half = [(2, found(0, 0, 7, 0)), (5, found(0, 0, 0, 7))];
+        assert_eq!(lookup_line(&half), " 0 0 2:7+0 5:0+7");
+        let later = [(0, found(5, 2, 0, 0)), (1, found(5, 3, 0, 0)), (2, found(5, 2, 0, 0))];
+        assert_eq!(lookup_line(&later), " 5 2 5 3");
+        let later = [(0, found(0, 0, 52, 9)), (2, found(4, 0, 61, 0)), (5, found(0, 0, 70, 8))];
+        assert_eq!(lookup_line(&later), " 0 0 0:52+9 4 0 2:61+0 5:70+8");
+    }
 }

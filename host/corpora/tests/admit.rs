@@ -1,13 +1,14 @@
-//! The files of crates/admit and crates/admit_cases are those that make-admit writes, and the
-//! reference's small program prints the lines that go with them.
+//! The files of crates/admit, crates/admit_usage and crates/admit_cases are those that
+//! make-admit writes, and the reference's small program prints the lines that go with them.
 
 use std::collections::BTreeSet;
 use std::path::{Path, PathBuf};
 
-use corpora::admit::{files, runs, ACCEPTED};
+use corpora::admit::{files, runs, Run, ACCEPTED, TOO_MANY, USAGE};
 use corpora::case::{CACHE, IMAGE, SIGNATURE};
 use corpora::file::Reader;
-use reference::small;
+use reference::cache::ENTRY;
+use reference::small::{self, CACHE_MOST, IMAGE_MOST, SIGNATURE_MOST};
 
 fn folder(name: &str) -> PathBuf {
     Path::new(env!("CARGO_MANIFEST_DIR")).join("../../crates").join(name)
@@ -48,6 +49,41 @@ fn accepted_run() {
     let printed = small::run(&signature, &image, &cache);
     assert!(printed.starts_with("0 "));
     assert_eq!(std::fs::read_to_string(folder("admit").join("stdout")).unwrap(), printed);
+}
+
+/// A program that counts its arguments only up to three would take the first three here.
+#[test]
+fn usage_run() {
+    assert_eq!(TOO_MANY.len(), ACCEPTED.len() + 1);
+    let read = |name| std::fs::read_to_string(folder("admit_usage").join(name)).unwrap();
+    assert!(read("args").lines().eq(TOO_MANY));
+    assert_eq!(read("stdout"), USAGE);
+}
+
+/// The lengths of a run's files that the accepted run does not have, each with its limit.
+fn lengths(run: &Run) -> Vec<(u64, u64)> {
+    let files = files();
+    let length = |name| files.iter().find(|(file, _)| *file == name).unwrap().1.len() as u64;
+    let limits = [SIGNATURE_MOST, IMAGE_MOST, CACHE_MOST];
+    let other = run.files.into_iter().zip(limits).filter(|(name, _)| !ACCEPTED.contains(name));
+    other.map(|(name, limit)| (length(name), limit)).collect()
+}
+
+/// What a name says of a limit is so.
+#[test]
+fn names_tell_the_limits() {
+    let runs = runs();
+    for run in runs.iter().filter(|run| run.name.contains("limit")) {
+        let over = u64::from(run.name.ends_with(" over the limit"));
+        for (length, limit) in lengths(run) {
+            assert_eq!(length, limit + over, "{}", run.name);
+        }
+    }
+    let named = |name: &str| runs.iter().find(|run| run.name == name).expect(name);
+    let cache = lengths(named("longest cache that is well formed"));
+    assert!(matches!(cache[..], [(length, limit)] if length <= limit && limit < length + ENTRY));
+    let all = lengths(named("longest files that are accepted"));
+    assert_eq!(all, [(SIGNATURE_MOST, SIGNATURE_MOST), (IMAGE_MOST, IMAGE_MOST), cache[0]]);
 }
 
 /// Every file is used, no name is given twice, and the limits are met exactly.

@@ -1,7 +1,8 @@
 //! One call by the library between guard pages, held to what the reference says.
 
+use compare::{facts, fields};
 use reference::directory;
-use trewizlow::{Answer, Blob, CdHash, Directory, Lent, Verdict};
+use trewizlow::{Answer, Blob, CdHash, Lent, Verdict};
 
 use crate::cut::{Cut, Operation};
 use crate::expected::expected;
@@ -13,7 +14,8 @@ pub enum Said {
     Check(Verdict, Vec<u8>),
     Recheck(Answer, Vec<u8>),
     Find(Blob),
-    Read(Directory),
+    /// The directory's fields in the order of the C interface.
+    Read(Answer, [u64; 15]),
     CdHash(CdHash),
 }
 
@@ -21,9 +23,8 @@ impl Said {
     fn number(&self) -> u32 {
         match self {
             Said::Check(verdict, _) => verdict.number,
-            Said::Recheck(answer, _) => answer.number,
+            Said::Recheck(answer, _) | Said::Read(answer, _) => answer.number,
             Said::Find(blob) => blob.answer.number,
-            Said::Read(directory) => directory.answer.number,
             Said::CdHash(cdhash) => cdhash.answer.number,
         }
     }
@@ -68,7 +69,7 @@ fn by_library(cut: &Cut, edge: Edge) -> Said {
             let lent = Lent {
                 info_plist: info.as_deref(),
                 code_resources: resources.as_deref(),
-                launch: cut.launch,
+                launch: facts(&cut.launch),
                 ..Lent::new(&signature, &image, &cache)
             };
             let verdict = trewizlow::check(&lent, &mut marks);
@@ -80,7 +81,10 @@ fn by_library(cut: &Cut, edge: Edge) -> Said {
             Said::Recheck(answer, marks.to_vec())
         }
         Operation::Find => Said::Find(trewizlow::find(&signature, cut.kind)),
-        Operation::Read => Said::Read(trewizlow::read(&signature)),
+        Operation::Read => {
+            let directory = trewizlow::read(&signature);
+            Said::Read(directory.answer, fields(&directory))
+        }
         Operation::CdHash => Said::CdHash(trewizlow::cdhash(&signature)),
     }
 }

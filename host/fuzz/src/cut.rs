@@ -13,7 +13,7 @@
 //! CodeResources, marks; what is left is the signature. Bytes that are missing from the first
 //! 34 are 0, and a part ends where the input ends.
 
-use trewizlow::Launch;
+use reference::launch::Launch;
 
 #[derive(Clone, Copy, Debug, PartialEq, Eq)]
 pub enum Operation {
@@ -38,7 +38,7 @@ const ON_SYSTEM_VOLUME: u8 = 8;
 const PARENT_IS_INIT: u8 = 16;
 const LISTED: u8 = 32;
 
-#[derive(Clone, Copy, Debug, PartialEq, Eq)]
+#[derive(Clone, Copy, Debug)]
 pub struct Cut<'a> {
     pub operation: Operation,
     pub launch: Launch,
@@ -62,6 +62,24 @@ fn array<const N: usize>(head: &[u8; HEAD], at: usize) -> [u8; N] {
 }
 
 impl<'a> Cut<'a> {
+    /// A call that is lent a signature alone.
+    pub fn new(operation: Operation, signature: &'a [u8]) -> Cut<'a> {
+        Cut {
+            operation,
+            launch: Launch::default(),
+            listed: false,
+            kind: 0,
+            start: 0,
+            length: 0,
+            image: &[],
+            cache: &[],
+            info: None,
+            resources: None,
+            marks: &[],
+            signature,
+        }
+    }
+
     pub fn of(input: &'a [u8]) -> Cut<'a> {
         let (start, mut rest) = input.split_at(input.len().min(HEAD));
         let mut head = [0; HEAD];
@@ -107,25 +125,30 @@ impl<'a> Cut<'a> {
         flags.iter().filter(|(set, _)| *set).map(|(_, flag)| flag).sum()
     }
 
+    /// What is cut after the head, but for the signature.
+    fn parts(&self) -> [&'a [u8]; 5] {
+        let (info, resources) = (self.info.unwrap_or_default(), self.resources.unwrap_or_default());
+        [self.image, self.cache, info, resources, self.marks]
+    }
+
+    /// Bytes of the input that is cut so.
+    pub fn input_length(&self) -> usize {
+        let parts: usize = self.parts().iter().map(|part| part.len()).sum();
+        HEAD + parts + self.signature.len()
+    }
+
     /// The input that is cut so. Each part but the signature has under 65,536 bytes.
     pub fn input(&self) -> Vec<u8> {
-        let parts = [
-            self.image,
-            self.cache,
-            self.info.unwrap_or_default(),
-            self.resources.unwrap_or_default(),
-            self.marks,
-        ];
         let operation = OPERATIONS.iter().position(|o| *o == self.operation).expect("listed");
         let mut input = vec![operation as u8, self.flags()];
         input.extend([self.launch.launch_type, self.launch.validation_category]);
         input.extend(self.kind.to_le_bytes());
         input.extend(self.start.to_le_bytes());
         input.extend(self.length.to_le_bytes());
-        for part in parts {
+        for part in self.parts() {
             input.extend(u16::try_from(part.len()).expect("a short part").to_le_bytes());
         }
-        parts.iter().for_each(|part| input.extend(*part));
+        self.parts().iter().for_each(|part| input.extend(*part));
         input.extend(self.signature);
         input
     }

@@ -11,7 +11,7 @@ mod seeds;
 
 pub use calls::compare;
 pub use cut::{Cut, Operation};
-pub use seeds::{seeds, Seed};
+pub use seeds::{seeds, Seed, MOST_BYTES};
 
 /// libFuzzer's entry. A difference panics, which aborts here, so that the input is kept.
 ///

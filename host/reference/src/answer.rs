@@ -6,7 +6,8 @@ pub const NUMBERS: [u32; 35] = [
     26, 27, 28, 29, 30, 31, 32, 33, 34,
 ];
 
-/// Number 0 is accepted; every other number is a refusal.
+/// Number 0 of a whole check is accepted, of any other call that its tests pass; every other
+/// number is a refusal.
 #[derive(Clone, Copy, Debug, PartialEq, Eq)]
 pub struct Answer {
     pub number: u32,

@@ -1,6 +1,7 @@
 //! The C header against the Rust declarations: the same inputs lent through both, every field
-//! and mark compared, and both held to the values that the inputs were built with. Then the C
-//! sources that the repository shows: they compile, and do what is said of them.
+//! and mark compared, and both held to the values that the inputs were built with. Then what
+//! the header says of itself: its number, its assertions, its standards. Then the C sources
+//! that the repository shows: they compile, and do what is said of them.
 
 mod scratch;
 
@@ -10,18 +11,21 @@ mod both;
 mod compile;
 #[path = "header/inputs.rs"]
 mod inputs;
+#[path = "header/text.rs"]
+mod text;
 
 use std::collections::BTreeSet;
 use std::fs::read_to_string;
 use std::path::Path;
 
 use both::{bytes_line, calls_c, lines, Both, Recheck};
-use compile::{c, cpp, in_repository, run};
-use inputs::{plan, refused, whole_checks, BEFORE, BLOBS, DIRECTORY};
+use compile::{c, cpp, in_repository, installed, run};
+use inputs::{plan, refused, whole_checks, ABSENT, BEFORE, BLOBS, DIRECTORY};
 use reference::directory::cut;
 use reference::launch::Launch as Facts;
 use reference::sha256::digest;
 use scratch::{sample, Scratch};
+use text::{asserted, declarations, declared, name_in_c, name_in_rust, parameters};
 use trewizlow::Launch;
 
 const ACCEPTED: [(&str, u64); 2] = [("number", 0), ("place", 0)];
@@ -34,10 +38,62 @@ fn with_marks(number: u32, place: usize, marks: &[u8]) -> String {
     answer(number, place) + &bytes_line("marks", marks)
 }
 
+fn header() -> String {
+    read_to_string(in_repository("include/trewizlow.h")).unwrap()
+}
+
 #[test]
 fn interface_number() {
     let header = Both::new("interface").through_header(&["interface"]);
     assert_eq!(header, format!("interface {}\n", trewizlow::INTERFACE));
+}
+
+/// The SHA-256 of the header's declarations under each interface number. A line that stands
+/// here is not changed.
+const INTERFACES: [(u32, &str); 1] =
+    [(1, "966c148388ee41310358b04481e1dc0786e28d74f289a0b20d0cfb331de6f618")];
+
+fn digest_of_declarations(header: &str) -> String {
+    digest(declarations(header).as_bytes()).map(|byte| format!("{byte:02x}")).concat()
+}
+
+#[test]
+fn interface_number_stands_for_the_declarations() {
+    assert!(INTERFACES.is_sorted_by(|(one, _), (next, _)| one < next));
+    let (number, stored) = INTERFACES[INTERFACES.len() - 1];
+    let found = digest_of_declarations(&header());
+    assert!(
+        (number, stored) == (trewizlow::INTERFACE, &found),
+        "the declarations of include/trewizlow.h are not those of interface {number}: raise \
+         TREWIZLOW_INTERFACE there and INTERFACE in host/trewizlow/src/lib.rs, and add the \
+         new number with \"{found}\" to INTERFACES in this test"
+    );
+}
+
+/// Names, types and order count; comments and blanks do not.
+#[test]
+fn what_changes_the_declarations() {
+    let (header, whole) = (header(), digest_of_declarations(&header()));
+    let changed = |old: &str, new: &str| {
+        assert!(header.contains(old), "{old}");
+        digest_of_declarations(&header.replacen(old, new, 1)) != whole
+    };
+    assert!(changed("    uint32_t number;", "    uint64_t number;"));
+    assert!(changed("hash_type, platform,", "platform, hash_type,"));
+    assert!(changed("uint64_t start, uint64_t length", "uint64_t length, uint64_t start"));
+    assert!(changed("bool parent_is_init;", "bool parent_is_init, more;"));
+    assert!(!changed("    uint32_t number;", "\n  uint32_t\n number; /* more; */"));
+    assert!(!changed("Takes no marks", "Takes none"));
+}
+
+/// A field that is added without its line in the header's list would be asserted nowhere.
+#[test]
+fn every_field_is_asserted() {
+    let header = header();
+    assert_eq!(asserted(&header), declared(&header));
+    let added = header.replace("uint8_t hash[20];", "uint8_t hash[20], more;");
+    assert!(declared(&added).contains(&"trewizlow_cdhash_answer more".to_string()));
+    assert_ne!(asserted(&added), declared(&added));
 }
 
 #[test]
@@ -52,6 +108,9 @@ fn fields_of_a_directory() {
     for (kind, start, length) in BLOBS {
         let found = [("start", start), ("length", length)];
         both.find(&signature, kind, &lines(&[ACCEPTED, found].concat()));
+    }
+    for kind in ABSENT {
+        both.find(&signature, kind, &lines(&[ACCEPTED, [("start", 0), ("length", 0)]].concat()));
     }
 }
 
@@ -142,30 +201,10 @@ fn answers_to_the_launch_facts() {
     }
 }
 
-/// The names of a function's parameters; `name` finds a parameter's in its declaration.
-fn parameters(source: &str, function: &str, name: fn(&str) -> &str) -> Vec<String> {
-    let (_, rest) = source.split_once(&format!(" {function}(")).expect(function);
-    let (list, _) = rest.split_once(')').expect("the list's end");
-    let declarations = list.split(',').map(str::trim).filter(|word| !word.is_empty());
-    declarations.map(|declaration| name(declaration).to_string()).collect()
-}
-
-fn name_in_c(declaration: &str) -> &str {
-    declaration.rsplit([' ', '*']).next().expect("a name")
-}
-
-fn name_in_rust(declaration: &str) -> &str {
-    match declaration.split(':').next().expect("a name") {
-        // `type` is a keyword.
-        "kind" => "type",
-        name => name,
-    }
-}
-
 /// A call cannot show that two parameters of one type have each other's names.
 #[test]
 fn names_of_parameters() {
-    let header = read_to_string(in_repository("include/trewizlow.h")).unwrap();
+    let header = header();
     let functions = [
         ("interface.rs", "trewizlow_check"),
         ("interface.rs", "trewizlow_recheck"),
@@ -185,7 +224,7 @@ fn names_of_parameters() {
 #[test]
 fn exchanged_fields_show() {
     let scratch = Scratch::new("header-exchanged");
-    let header = read_to_string(in_repository("include/trewizlow.h")).unwrap();
+    let header = header();
     let exchanged = header.replace("hash_type, platform,", "platform, hash_type,");
     assert_ne!(exchanged, header);
     scratch.file("trewizlow.h", exchanged.as_bytes());
@@ -198,23 +237,23 @@ fn exchanged_fields_show() {
     assert!(out.contains("hash_type 6\nplatform 2\n"), "{out}");
 }
 
-/// The header by itself.
+/// The standards that the header names.
+const STANDARDS: [&str; 6] =
+    ["-std=c99", "-std=c11", "-std=c17", "-std=c++11", "-std=c++17", "-std=c++20"];
+
+/// The header by itself, by every compiler that is installed.
 #[test]
 fn header_under_each_standard() {
     let scratch = Scratch::new("header-standards");
     let source =
         scratch.file("alone.c", b"#include \"trewizlow.h\"\nint main(void) { return 0; }\n");
-    let compilers = [
-        c("-std=c99"),
-        c("-std=c11"),
-        c("-std=c17"),
-        cpp("-std=c++11"),
-        cpp("-std=c++17"),
-        cpp("-std=c++20"),
-    ];
-    for compiler in compilers {
+    for compiler in STANDARDS.into_iter().flat_map(installed) {
         compiler.build(&[Path::new(&source)], &scratch.path("alone"));
     }
+    let names = STANDARDS.map(|standard| standard.trim_start_matches("-std=").to_uppercase());
+    let [others @ .., last] = &names;
+    let named = format!("as {} and {last},", others.join(", "));
+    assert!(header().contains(&named), "the header does not say {named:?}");
 }
 
 /// README's C block as it stands, as C and as C++, called on the samples.

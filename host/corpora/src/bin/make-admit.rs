@@ -6,7 +6,7 @@ use std::io;
 use std::path::Path;
 use std::process::ExitCode;
 
-use corpora::admit::{files, runs, ACCEPTED};
+use corpora::admit::{files, runs, ACCEPTED, TOO_MANY, USAGE};
 use corpora::file::Writer;
 use reference::small;
 
@@ -23,18 +23,24 @@ fn printed(data: &Path, files: [&str; 3]) -> String {
     small::run(&signature, &image, &cache)
 }
 
+/// Arguments, a line each.
+fn lines(arguments: &[&str]) -> String {
+    arguments.iter().map(|argument| format!("{argument}\n")).collect()
+}
+
 /// The accepted run.
 fn write_accepted(folder: &Path) -> io::Result<()> {
     let data = folder.join("data");
     write_files(&data, |name| ACCEPTED.contains(&name))?;
-    fs::write(folder.join("args"), ACCEPTED.map(|name| format!("{name}\n")).concat())?;
+    fs::write(folder.join("args"), lines(&ACCEPTED))?;
     fs::write(folder.join("stdout"), printed(&data, ACCEPTED))
 }
 
-/// A run without arguments.
+/// A run with one argument too many.
 fn write_usage(folder: &Path) -> io::Result<()> {
     fs::create_dir_all(folder)?;
-    fs::write(folder.join("stdout"), "usage: admit SIGNATURE IMAGE CACHE\n")
+    fs::write(folder.join("args"), lines(&TOO_MANY))?;
+    fs::write(folder.join("stdout"), USAGE)
 }
 
 /// All other cases, from one corpus.

@@ -121,7 +121,7 @@ fn striped(length: usize) -> Vec<u8> {
 }
 
 /// Three pages with every thing that a slot covers, category 1, neighbours in the cache.
-fn full() -> InputsPlan {
+pub fn full() -> InputsPlan {
     let mut plan = InputsPlan::new(0x20400, striped(8193), 12);
     plan.blobs =
         [2, 5, 7, 8, 9, 10, 11, 0x1000, 0x10000].map(|k| (k, blob_of(k, b"data"))).to_vec();

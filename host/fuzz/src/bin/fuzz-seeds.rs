@@ -7,7 +7,7 @@ fn write(directory: &Path) -> std::io::Result<()> {
     std::fs::create_dir_all(directory)?;
     fuzz::seeds()
         .iter()
-        .try_for_each(|seed| std::fs::write(directory.join(&seed.name), &seed.input))
+        .try_for_each(|seed| std::fs::write(directory.join(seed.file_name()), &seed.input))
 }
 
 fn main() -> ExitCode {

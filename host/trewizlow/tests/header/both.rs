@@ -45,16 +45,6 @@ fn words_of(launch: &Launch) -> [String; 5] {
     .map(|fact| fact.to_string())
 }
 
-fn launch_of(inputs: &Inputs) -> Launch {
-    Launch {
-        on_authorized_volume: inputs.launch.on_authorized_volume,
-        on_system_volume: inputs.launch.on_system_volume,
-        launch_type: inputs.launch.launch_type,
-        validation_category: inputs.launch.validation_category,
-        parent_is_init: inputs.launch.parent_is_init,
-    }
-}
-
 pub fn calls_c() -> PathBuf {
     in_repository("host/trewizlow/tests/header/calls.c")
 }
@@ -116,7 +106,7 @@ impl Both {
         let lent = Lent {
             info_plist: inputs.info.as_deref(),
             code_resources: inputs.resources.as_deref(),
-            launch: launch_of(inputs),
+            launch: compare::facts(&inputs.launch),
             ..Lent::new(&inputs.signature, &inputs.image, &inputs.cache)
         };
         let mut written = marks.to_vec();

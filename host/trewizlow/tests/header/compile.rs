@@ -32,6 +32,15 @@ pub const fn cpp(standard: &'static str) -> Compiler {
     Compiler { program: "c++", language: "c++", standard }
 }
 
+/// The compilers of a standard: the system's, which must be there, and clang where it is.
+pub fn installed(standard: &'static str) -> Vec<Compiler> {
+    let (system, clang) =
+        if standard.contains("++") { (cpp(standard), "clang++") } else { (c(standard), "clang") };
+    let there = Command::new(clang).arg("--version").output().is_ok();
+    let clang = there.then_some(Compiler { program: clang, ..system });
+    [system].into_iter().chain(clang).collect()
+}
+
 impl Compiler {
     /// Compiles and links a program, with the header in this directory; the compiler's
     /// messages where it fails.

@@ -52,6 +52,9 @@ pub const DIRECTORY: [(&str, u64); 15] = [
 pub const BLOBS: [(u32, u64, u64); 5] =
     [(0, 52, 432), (2, 484, 12), (5, 496, 17), (7, 513, 24), (0x10000, 537, 33)];
 
+/// Types that are known and have no blob in `plan`, then types that are not known.
+pub const ABSENT: [u32; 6] = [8, 0x1000, 1, 6, 0x1_0001, u32::MAX];
+
 /// A signature with the number and the place of its refusal.
 pub struct Refused {
     pub number: u32,
