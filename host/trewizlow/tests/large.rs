@@ -6,6 +6,7 @@ mod terminal;
 
 use std::fs::{self, File, OpenOptions};
 use std::io::Write;
+use std::os::unix::process::ExitStatusExt;
 use std::process::{Child, Command, Stdio};
 use std::thread::sleep;
 use std::time::{Duration, Instant};
@@ -13,7 +14,7 @@ use std::time::{Duration, Instant};
 use reference::inputs::{Inputs, InputsPlan};
 use reference::make::DirectoryPlan;
 use reference::sha256::digest;
-use scratch::{check, ended, recheck, sample, tool, Run, Scratch, TOOL};
+use scratch::{check, ended, limited, recheck, sample, tool, Run, Scratch, TOOL};
 
 const MIB: u32 = 1 << 20;
 const HUGE: u64 = 64 << 30;
@@ -32,13 +33,6 @@ fn zeros(code_limit: u32, page_shift: u8) -> Inputs {
     plan.directory =
         DirectoryPlan { code_limit, code: vec![digest(&page); slots as usize], ..plan.directory };
     plan.build()
-}
-
-/// The tool, ended after a while: a test of what makes it wait fails then, and does not hang.
-fn limited(list: &[&str]) -> Command {
-    let mut command = Command::new("timeout");
-    command.args(["30", TOOL]).args(list).stdin(Stdio::null());
-    command
 }
 
 /// A run that may not have more memory of its own than a little; a mapped file is not counted.
@@ -68,23 +62,6 @@ fn small_files_decide_first() {
     assert!(err.contains("cannot read") && err.contains("missing"), "{err}");
 }
 
-/// A missing file is told before any other is read: here one that never ends.
-#[test]
-fn all_files_are_opened_first() {
-    let missing = "/nowhere/cache";
-    let (signature, image) = (sample("signature.bin"), sample("image.bin"));
-    for list in [check("/dev/stdin", &image, missing), check(&signature, "/dev/stdin", missing)] {
-        let mut command = limited(&list);
-        command.stdin(Stdio::piped()).stdout(Stdio::piped()).stderr(Stdio::piped());
-        let mut child = command.spawn().unwrap();
-        let endless = child.stdin.take();
-        let (status, out, err) = ended(child.wait_with_output().unwrap());
-        drop(endless);
-        assert_eq!((status, out.as_str()), (2, ""));
-        assert!(err.contains("cannot read") && err.contains(missing), "{err}");
-    }
-}
-
 /// Of an image only the bytes below the code limit are read, from a file and from a pipe.
 #[test]
 fn images_longer_than_the_code_limit() {
@@ -108,23 +85,50 @@ fn images_longer_than_the_code_limit() {
     drop(pipe);
 }
 
-/// Cuts the file when the child has mapped it, which it then hashes for a second and more.
-fn cut_meanwhile(child: &mut Child, path: &str) {
+/// Runs the tool, which has mapped the file and now hashes it for a second and more.
+fn mapping(list: &[&str], path: &str) -> Child {
+    let mut child = tool(list).stdout(Stdio::piped()).stderr(Stdio::piped()).spawn().unwrap();
     let maps = format!("/proc/{}/maps", child.id());
     while !fs::read_to_string(&maps).unwrap().contains(path) {
         assert!(child.try_wait().unwrap().is_none(), "it ended before it mapped {path}");
         sleep(Duration::from_millis(2));
     }
-    File::create(path).unwrap();
+    child
 }
 
-fn cut_and_end(list: &[&str], path: &str) -> Run {
-    let mut child = tool(list).stdout(Stdio::piped()).stderr(Stdio::piped()).spawn().unwrap();
-    cut_meanwhile(&mut child, path);
+/// Runs the tool, and does `then` while it hashes the file.
+fn run_and(list: &[&str], path: &str, then: impl FnOnce()) -> Run {
+    let child = mapping(list, path);
+    then();
     ended(child.wait_with_output().unwrap())
 }
 
-/// A file that is cut while it is examined is an input error, and no marks are written.
+fn cut_and_end(list: &[&str], path: &str) -> Run {
+    run_and(list, path, || drop(File::create(path).unwrap()))
+}
+
+/// A run that is interrupted ends as any other would, and leaves nothing beside the marks.
+#[test]
+fn interrupted_runs() {
+    let scratch = Scratch::new("interrupted");
+    let inputs = zeros(SLOW, 14);
+    let signature = scratch.file("signature", &inputs.signature);
+    let cache = scratch.file("cache", &inputs.cache);
+    let image = scratch.sparse("image", SLOW.into());
+    let marks = scratch.path("marks");
+    let mut list = check(&signature, &image, &cache);
+    list.extend(["--marks", &marks]);
+    for (name, number) in [("HUP", 1), ("INT", 2), ("TERM", 15)] {
+        let mut child = mapping(&list, &image);
+        assert_eq!(scratch.names().len(), 4, "the new file is there");
+        Command::new("kill").args(["-s", name, &child.id().to_string()]).status().unwrap();
+        assert_eq!(child.wait().unwrap().signal(), Some(number), "{name}");
+        assert_eq!(scratch.names(), ["cache", "image", "signature"], "{name}");
+    }
+}
+
+/// A file that is cut while it is examined is an input error. No marks are written, and
+/// nothing is left beside them.
 #[test]
 fn files_that_are_cut() {
     let scratch = Scratch::new("cut");
@@ -146,6 +150,33 @@ fn files_that_are_cut() {
     let object = format!("{{\"error\":\"{sentence}\"}}\n");
     assert_eq!(cut_and_end(&list, &image), (2, object, said));
     assert_eq!(scratch.read("marks"), before);
+    assert_eq!(scratch.names(), ["cache", "image", "marks", "signature"]);
+}
+
+/// An input that is moved to the marks' place during a recheck, which the lock does not
+/// prevent, is left alone.
+#[test]
+fn an_input_in_the_place_of_the_marks() {
+    let scratch = Scratch::new("moved");
+    let inputs = zeros(SLOW, 14);
+    let signature = scratch.file("signature", &inputs.signature);
+    let pages = scratch.sparse("pages", SLOW.into());
+    let marks = scratch.file("marks", &vec![1; inputs.pages]);
+    let length = SLOW.to_string();
+    let list = recheck(&signature, ["0", &length], &pages, &marks);
+    // The fourth file is the new one, which is made behind the mapping and before the recheck.
+    let moved = || {
+        let start = Instant::now();
+        while scratch.names().len() < 4 && start.elapsed() < AT_ONCE {
+            sleep(Duration::from_millis(2));
+        }
+        fs::rename(&signature, &marks).unwrap();
+    };
+    let (status, out, err) = run_and(&list, &pages, moved);
+    assert!(status == 2 && out.starts_with("0 0 pages agree"), "{out} {err}");
+    assert!(err.contains("another file took its place"), "{err}");
+    assert_eq!(scratch.read("marks"), inputs.signature);
+    assert_eq!(scratch.names(), ["marks", "pages"]);
 }
 
 /// What a terminal shows on standard error while the tool runs. When the first line has come,
@@ -179,6 +210,19 @@ fn progress_of_a_check() {
 
 #[test]
 fn progress_of_a_recheck() {
+    let scratch = Scratch::new("progress-recheck");
+    let inputs = zeros(SLOW, 14);
+    let signature = scratch.file("signature", &inputs.signature);
+    let (pages, marks) =
+        (scratch.sparse("pages", SLOW.into()), scratch.file("marks", &vec![1; inputs.pages]));
+    let length = SLOW.to_string();
+    let text = shown(&recheck(&signature, ["0", &length], &pages, &marks), || ());
+    assert!(text.starts_with(&format!("{CLEAR}trewizlow: rechecking 640 MiB, ")), "{text:?}");
+    assert!(text.ends_with(CLEAR) && !text.contains('\n'), "{text:?}");
+}
+
+#[test]
+fn progress_of_waiting() {
     let scratch = Scratch::new("waiting");
     let (signature, pages) = (sample("signature.bin"), scratch.file("pages", b""));
     let marks = scratch.file("marks", &[0, 0, 0]);
@@ -188,4 +232,5 @@ fn progress_of_a_recheck() {
     let text = shown(&list, || held.unlock().unwrap());
     let line = format!("{CLEAR}trewizlow: waiting for another run to release the marks, ");
     assert!(text.starts_with(&line) && text.ends_with(CLEAR), "{text:?}");
+    assert!(!text.contains('\n'), "{text:?}");
 }

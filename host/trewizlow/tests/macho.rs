@@ -6,41 +6,62 @@ use std::fs;
 use std::process::Command;
 
 use reference::inputs::InputsPlan;
-use scratch::{check, run, Scratch};
+use scratch::{ended, run, Scratch, TOOL};
 
 const README: &str = concat!(env!("CARGO_MANIFEST_DIR"), "/../../README.md");
 const LC_CODE_SIGNATURE: u32 = 0x1D;
-/// Where the signature lies: behind two whole pages and a short one.
-const DATA_OFFSET: u32 = 8208;
-/// Room for it, as a linker leaves it: more than it takes.
-const DATA_SIZE: u32 = 1224;
+
+/// The recipe's lines of shell, without the indentation.
+fn recipe() -> Vec<String> {
+    let readme = fs::read_to_string(README).unwrap();
+    let (_, rest) = readme.split_once("## A Mach-O file's signature\n").unwrap();
+    let section = rest.split("\n## ").next().unwrap();
+    section.lines().filter_map(|line| line.strip_prefix("    ")).map(String::from).collect()
+}
+
+/// The word behind this one in the first of the lines that has it.
+fn after<'a>(lines: &'a [String], word: &str) -> &'a str {
+    let behind = |line: &'a String| {
+        let mut words = line.split_whitespace();
+        words.find(|one| *one == word).and(words.next())
+    };
+    lines.iter().find_map(behind).unwrap()
+}
 
 /// A 64-bit Mach-O file up to its signature: the head and one load command.
-fn unsigned() -> Vec<u8> {
+fn unsigned(offset: u32, size: u32) -> Vec<u8> {
     let head = [0xFEED_FACF, 0x0100_000C, 0, 2, 1, 16, 0, 0];
-    let words = head.into_iter().chain([LC_CODE_SIGNATURE, 16, DATA_OFFSET, DATA_SIZE]);
+    let words = head.into_iter().chain([LC_CODE_SIGNATURE, 16, offset, size]);
     let mut file: Vec<u8> = words.flat_map(u32::to_le_bytes).collect();
-    file.resize(DATA_OFFSET as usize, 0x5A);
+    file.resize(offset as usize, 0x5A);
     file
 }
 
+/// The file has the numbers that the recipe shows, and the name that it gives the thin file.
+/// Then every line that follows is run as it stands.
 #[test]
-fn recipe() {
+fn as_it_stands() {
     let scratch = Scratch::new("recipe");
-    let inputs = InputsPlan::new(0x20400, unsigned(), 12).build();
+    let lines = recipe();
+    let [offset, size] = ["dataoff", "datasize"].map(|word| after(&lines, word).parse().unwrap());
+    let inputs = InputsPlan::new(0x20400, unsigned(offset, size), 12).build();
     let mut file = [inputs.image, inputs.signature.clone()].concat();
-    file.resize((DATA_OFFSET + DATA_SIZE) as usize, 0);
-    let (app, cache) = (scratch.file("app", &file), scratch.file("cache", &inputs.cache));
-    assert_eq!(run(&["show", &app]).0, 1);
-    let readme = fs::read_to_string(README).unwrap();
-    let cut = readme.lines().find(|line| line.contains("tail -c")).unwrap();
-    let script = format!("dataoff={DATA_OFFSET} datasize={DATA_SIZE}\n{cut}");
-    let done = Command::new("sh").args(["-c", &script]).current_dir(&scratch.0).status().unwrap();
-    assert!(done.success());
+    // Room for the signature, as a linker leaves it: more than it takes.
+    assert!(file.len() <= (offset + size) as usize);
+    file.resize((offset + size) as usize, 0);
+    let thin = scratch.file(after(&lines, "-output"), &file);
+    assert_eq!(run(&["show", &thin]).0, 1);
+    scratch.file("cache.bin", &inputs.cache);
+    fs::create_dir(scratch.path("bin")).unwrap();
+    scratch.symlink(TOOL, "bin/trewizlow");
+    let from = lines.iter().position(|line| line.starts_with("dataoff=")).unwrap();
+    let script = lines[from..].join("\n");
+    let mut shell = Command::new("sh");
+    let run = shell.args(["-euc", &script]).current_dir(&scratch.0).output().unwrap();
+    let (status, out, err) = ended(run);
+    assert!(status == 0 && err.is_empty(), "{out} {err}");
+    assert!(out.starts_with("blobs\n") && out.contains("\n0 0 accepted: "), "{out}");
     let signature = scratch.read("signature.bin");
-    assert_eq!(signature.len(), DATA_SIZE as usize);
+    assert_eq!(signature.len(), size as usize);
     assert!(signature.starts_with(&inputs.signature));
-    let (status, out, _) = run(&check(&scratch.path("signature.bin"), &app, &cache));
-    assert!(status == 0 && out.starts_with("0 0 accepted"));
-    assert_eq!(run(&["show", &scratch.path("signature.bin")]).0, 0);
 }

@@ -1,42 +1,20 @@
 //! The marks file: rechecks at once, what may be replaced, and what may not.
 
+mod lock;
 mod scratch;
 
 use std::fs::{self, File, Permissions};
 use std::os::unix::fs::{chown, MetadataExt, PermissionsExt};
 use std::process::{Child, Command, Stdio};
-use std::thread::sleep;
-use std::time::Duration;
 
+use lock::{hold, until_it_waits};
 use reference::inputs::{Inputs, InputsPlan};
-use scratch::{check, ended, recheck, run, sample, tool, Run, Scratch, TOOL};
+use scratch::{check, check_to, ended, recheck, recheck_of, run, tool, Run, Scratch};
 
 const PAGE: usize = 4096;
 
-/// A check of the samples that writes marks.
-fn check_to(marks: &str) -> Run {
-    let names = ["signature.bin", "image.bin", "cache.bin"].map(sample);
-    let mut list = check(&names[0], &names[1], &names[2]);
-    list.extend(["--marks", marks]);
-    run(&list)
-}
-
-/// A recheck of page 0 of the sample.
-fn recheck_of(scratch: &Scratch, marks: &str) -> Child {
-    let page = &fs::read(sample("image.bin")).unwrap()[..PAGE];
-    let (signature, page) = (sample("signature.bin"), scratch.file("page", page));
-    let list = recheck(&signature, ["0", "1"], &page, marks);
-    tool(&list).stdout(Stdio::piped()).stderr(Stdio::piped()).spawn().unwrap()
-}
-
-/// Returns when the child waits for a lock. It must not end instead.
-fn until_it_waits(child: &mut Child) {
-    let id = child.id().to_string();
-    let waits = |line: &str| line.contains("->") && line.split_whitespace().any(|word| word == id);
-    while !fs::read_to_string("/proc/locks").unwrap().lines().any(waits) {
-        assert!(child.try_wait().unwrap().is_none(), "it did not wait");
-        sleep(Duration::from_millis(5));
-    }
+fn done(mut command: Command) -> Run {
+    ended(command.output().unwrap())
 }
 
 /// Rechecks each page at once, every second one by a symbolic link, and waits for all.
@@ -77,10 +55,8 @@ fn rechecks_at_once() {
 fn marks_that_were_replaced_meanwhile() {
     let scratch = Scratch::new("meanwhile");
     let marks = scratch.file("marks", &[1, 1, 1]);
-    let held = File::open(&marks).unwrap();
-    held.lock().unwrap();
-    let mut child = recheck_of(&scratch, &marks);
-    until_it_waits(&mut child);
+    let held = hold(&marks);
+    let child = until_it_waits(recheck_of(&scratch, &marks));
     fs::rename(scratch.file("new", &[1, 0, 0]), &marks).unwrap();
     held.unlock().unwrap();
     assert_eq!(ended(child.wait_with_output().unwrap()).0, 0);
@@ -92,13 +68,8 @@ fn marks_that_were_replaced_meanwhile() {
 fn a_check_waits() {
     let scratch = Scratch::new("waits");
     let marks = scratch.file("marks", &[1, 1, 1]);
-    let held = File::open(&marks).unwrap();
-    held.lock().unwrap();
-    let names = ["signature.bin", "image.bin", "cache.bin"].map(sample);
-    let mut list = check(&names[0], &names[1], &names[2]);
-    list.extend(["--marks", &marks]);
-    let mut child = tool(&list).stdout(Stdio::null()).spawn().unwrap();
-    until_it_waits(&mut child);
+    let held = hold(&marks);
+    let mut child = until_it_waits(check_to(&marks));
     assert_eq!(scratch.read("marks"), [1, 1, 1]);
     held.unlock().unwrap();
     assert_eq!(child.wait().unwrap().code(), Some(0));
@@ -155,24 +126,20 @@ fn inputs_of_a_recheck() {
     assert_eq!(scratch.names(), ["pages", "signature"]);
 }
 
-/// What a crash left, or somebody put there, is neither used nor removed. `$$` is the tool's
-/// process.
+/// What a crash left, or somebody put there, is neither used nor removed.
 #[test]
 fn what_lies_beside_the_marks() {
     let scratch = Scratch::new("beside");
-    let script = "cd \"$1\"; shift; echo theirs | tee .marks.$$.new >.marks.new; exec \"$@\"";
-    let names = ["signature.bin", "image.bin", "cache.bin"].map(sample);
-    let mut list = vec!["-c", script, "sh", scratch.0.to_str().unwrap(), TOOL];
-    list.extend(check(&names[0], &names[1], &names[2]));
-    list.extend(["--marks", "marks"]);
-    let (status, out, err) = ended(Command::new("sh").args(&list).output().unwrap());
-    assert!(status == 0 && out.starts_with("0 4 accepted"), "{err}");
+    let left = [".trewizlow-", ".trewizlow-0000000000000000", ".trewizlow-ffffffffffffffff"];
+    left.iter().for_each(|name| drop(scratch.file(name, b"theirs")));
+    let marks = scratch.path("marks");
+    assert_eq!(done(check_to(&marks)).0, 0);
+    assert_eq!(done(recheck_of(&scratch, &marks)).0, 0);
     assert_eq!(scratch.read("marks"), [0, 0, 0]);
-    let names = scratch.names();
-    assert_eq!(names.len(), 3, "{names:?}");
-    for name in names.iter().filter(|name| *name != "marks") {
-        assert_eq!(scratch.read(name), b"theirs\n", "{name}");
+    for name in left {
+        assert_eq!(scratch.read(name), b"theirs", "{name}");
     }
+    assert_eq!(scratch.names(), [&left[..], &["marks", "page"]].concat());
 }
 
 /// The file behind a link is replaced, where it lies, and the link stays.
@@ -180,41 +147,15 @@ fn what_lies_beside_the_marks() {
 fn symbolic_links() {
     let (scratch, other) = (Scratch::new("links"), Scratch::new("linked"));
     let link = scratch.symlink(&other.file("marks", &[1, 1, 1]), "link");
-    assert_eq!(ended(recheck_of(&scratch, &link).wait_with_output().unwrap()).0, 1);
+    assert_eq!(done(recheck_of(&scratch, &link)).0, 1);
     assert_eq!(other.read("marks"), [0, 1, 1]);
-    assert_eq!(check_to(&link).0, 0);
+    assert_eq!(done(check_to(&link)).0, 0);
     assert_eq!(other.read("marks"), [0, 0, 0]);
     assert!(fs::symlink_metadata(&link).unwrap().is_symlink());
     assert_eq!(
         (scratch.names(), other.names()),
         (vec!["link".into(), "page".into()], vec!["marks".into()])
     );
-}
-
-/// Nothing is checked, and what is there stays as it is.
-#[test]
-fn marks_that_cannot_be() {
-    let scratch = Scratch::new("cannot");
-    let read_only = scratch.file("read-only", &[1, 1, 1]);
-    fs::set_permissions(&read_only, Permissions::from_mode(0o444)).unwrap();
-    let dangling = scratch.symlink("nowhere", "dangling");
-    let directory = scratch.path("directory");
-    fs::create_dir(&directory).unwrap();
-    for (marks, reason) in
-        [(&read_only, "read-only"), (&dangling, "leads to no file"), (&directory, "Is a directory")]
-    {
-        let (status, out, err) = check_to(marks);
-        assert_eq!((status, out.as_str()), (2, ""), "{marks}");
-        assert!(err.contains("cannot write the marks to") && err.contains(reason), "{err}");
-    }
-    for marks in [&read_only, &dangling, &directory, "/dev/null", &scratch.path("missing")] {
-        let child = recheck_of(&scratch, marks);
-        let (status, out, err) = ended(child.wait_with_output().unwrap());
-        assert_eq!((status, out.as_str()), (2, ""), "{marks}");
-        assert!(err.contains("cannot write the marks to"), "{err}");
-    }
-    assert_eq!(scratch.read("read-only"), [1, 1, 1]);
-    assert_eq!(scratch.names(), ["dangling", "directory", "page", "read-only"]);
 }
 
 /// What cannot be replaced is written to; so is the file that standard output goes to, from
@@ -224,18 +165,13 @@ fn devices_and_pipes() {
     let scratch = Scratch::new("pipes");
     let line = "0 4 accepted: trust cache entry 4 lists the directory's hash\n";
     let both = format!("\0\0\0{line}");
-    assert_eq!(check_to("/dev/stdout"), (0, both.clone(), "".into()));
-    assert_eq!(check_to("/dev/null"), (0, line.into(), "".into()));
-    let names = ["signature.bin", "image.bin", "cache.bin"].map(sample);
-    let mut list = check(&names[0], &names[1], &names[2]);
-    list.extend(["--marks", "/dev/stdout"]);
+    assert_eq!(done(check_to("/dev/stdout")), (0, both.clone(), "".into()));
+    assert_eq!(done(check_to("/dev/null")), (0, line.into(), "".into()));
     let out = File::create(scratch.path("out")).unwrap();
-    assert!(tool(&list).stdout(out).status().unwrap().success());
+    assert!(check_to("/dev/stdout").stdout(out).status().unwrap().success());
     assert_eq!(scratch.read("out"), both.as_bytes());
-    let pipe = scratch.path("pipe");
-    assert!(Command::new("mkfifo").arg(&pipe).status().unwrap().success());
-    *list.last_mut().unwrap() = &pipe;
-    let mut child = tool(&list).stdout(Stdio::null()).spawn().unwrap();
+    let pipe = scratch.pipe("pipe");
+    let mut child = check_to(&pipe).stdout(Stdio::null()).spawn().unwrap();
     let read = Command::new("timeout").args(["30", "cat", &pipe]).output().unwrap();
     assert_eq!(read.stdout, [0, 0, 0]);
     assert_eq!(child.wait().unwrap().code(), Some(0));
@@ -256,8 +192,22 @@ fn permissions() {
         (metadata.mode(), metadata.uid(), metadata.gid())
     };
     let before = state();
-    assert_eq!(check_to(&marks).0, 0);
+    assert_eq!(done(check_to(&marks)).0, 0);
     assert_eq!((scratch.read("marks"), state()), (vec![0, 0, 0], before));
-    assert_eq!(ended(recheck_of(&scratch, &marks).wait_with_output().unwrap()).0, 0);
+    assert_eq!(done(recheck_of(&scratch, &marks)).0, 0);
     assert_eq!(state(), before);
+}
+
+/// A new file has the permissions that the user's mask leaves.
+#[test]
+fn permissions_of_a_new_file() {
+    let scratch = Scratch::new("mask");
+    let masked = |check: Command| {
+        let mut command = Command::new("sh");
+        command.args(["-c", "umask 027; exec \"$@\"", "sh"]).arg(check.get_program());
+        command.args(check.get_args()).output().unwrap().status.success()
+    };
+    let marks = scratch.path("marks");
+    assert!(masked(check_to(&marks)));
+    assert_eq!(fs::metadata(&marks).unwrap().mode() & 0o777, 0o640);
 }

@@ -155,7 +155,9 @@ fn explain_unknown_numbers() {
     for word in [(last + 1).to_string(), "4294967296".to_string(), "x".to_string()] {
         let (status, out, err) = run(&["explain", &word]);
         assert_eq!((status, out.as_str()), (2, ""));
-        let sentence = format!("number {word} is not in this tool's table, which has 0 to ");
+        let sentence = format!("number {word:?} is not in this tool's table, which has 0 to ");
         assert!(err.contains(&sentence) && err.contains(&last.to_string()));
     }
+    let (_, _, err) = run(&["explain", "\x1b[31m\n"]);
+    assert!(err.contains("number \"\\u{1b}[31m\\n\" is not"), "{err}");
 }

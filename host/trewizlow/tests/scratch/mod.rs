@@ -27,6 +27,13 @@ pub fn tool(list: &[&str]) -> Command {
     command
 }
 
+/// The tool, ended after a while: a test of what makes it wait fails then, and does not hang.
+pub fn limited(list: &[&str]) -> Command {
+    let mut command = Command::new("timeout");
+    command.args(["30", TOOL]).args(list).stdin(Stdio::null());
+    command
+}
+
 pub fn run(list: &[&str]) -> Run {
     ended(tool(list).output().unwrap())
 }
@@ -53,6 +60,21 @@ pub fn recheck<'a>(
     list
 }
 
+/// A check of the samples that writes marks.
+pub fn check_to(marks: &str) -> Command {
+    let names = ["signature.bin", "image.bin", "cache.bin"].map(sample);
+    let mut list = check(&names[0], &names[1], &names[2]);
+    list.extend(["--marks", marks]);
+    tool(&list)
+}
+
+/// A recheck of page 0 of the sample.
+pub fn recheck_of(scratch: &Scratch, marks: &str) -> Command {
+    let page = &std::fs::read(sample("image.bin")).unwrap()[..4096];
+    let (signature, page) = (sample("signature.bin"), scratch.file("page", page));
+    tool(&recheck(&signature, ["0", "1"], &page, marks))
+}
+
 /// A directory that goes with its files when the test ends.
 pub struct Scratch(pub PathBuf);
 
@@ -75,6 +97,11 @@ impl Scratch {
     /// A file that is all hole.
     pub fn sparse(&self, name: &str, length: u64) -> String {
         std::fs::File::create(self.0.join(name)).unwrap().set_len(length).unwrap();
+        self.path(name)
+    }
+
+    pub fn pipe(&self, name: &str) -> String {
+        assert!(Command::new("mkfifo").arg(self.0.join(name)).status().unwrap().success());
         self.path(name)
     }
 

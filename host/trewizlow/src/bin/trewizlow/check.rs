@@ -4,11 +4,11 @@ use trewizlow::{check, read, Launch, Verdict, MOST_CACHE_BYTES, MOST_SIGNATURE_B
 
 use crate::arguments::{Arguments, Names};
 use crate::command::Command;
-use crate::files::{mebibytes, notes, Lent, Opened};
+use crate::files::{mebibytes, notes, Input, Lent, Opened};
 use crate::help;
 use crate::json;
 use crate::macho;
-use crate::marks::Out;
+use crate::out::Out;
 use crate::outcome::Outcome;
 use crate::progress::during;
 
@@ -49,13 +49,14 @@ fn launch(arguments: &Arguments) -> Result<Launch, String> {
 /// The files of a check, all open and none read.
 struct Inputs {
     signature: Opened,
-    image: Opened,
     cache: Opened,
     info: Option<Opened>,
     resources: Option<Opened>,
+    image: Opened,
 }
 
 impl Inputs {
+    /// The image comes last: where it is a pipe, opening it waits for whoever writes it.
     fn open(arguments: &Arguments) -> Result<Inputs, String> {
         let signature = arguments.wanted_path("--signature")?;
         let image = arguments.wanted_path("--image")?;
@@ -63,26 +64,30 @@ impl Inputs {
         let side_file = |name| arguments.path(name).map(Opened::new).transpose();
         Ok(Inputs {
             signature: Opened::new(signature)?,
-            image: Opened::new(image)?,
             cache: Opened::new(cache)?,
             info: side_file("--info-plist")?,
             resources: side_file("--code-resources")?,
+            image: Opened::new(image)?,
         })
     }
 
-    fn all(&self) -> Vec<&Opened> {
+    fn all(&self) -> Vec<Input> {
         let wanted = [&self.signature, &self.image, &self.cache];
-        wanted.into_iter().chain(&self.info).chain(&self.resources).collect()
+        let all = wanted.into_iter().chain(&self.info).chain(&self.resources);
+        all.map(Opened::input).collect()
     }
 
-    /// The small files are read first. Of the image no byte past the code limit is read.
+    /// The small files are read first. Of the image no byte past the code limit is read, and
+    /// none where the signature or a side file's length is refused whatever the image is.
     fn lend(self) -> Result<Files, String> {
         let side_file =
             |file: Option<Opened>| file.map(|f| f.read(MOST_SIGNATURE_BYTES)).transpose();
         let signature = self.signature.read(MOST_SIGNATURE_BYTES)?;
         let cache = self.cache.read(MOST_CACHE_BYTES)?;
         let (info, resources) = (side_file(self.info)?, side_file(self.resources)?);
-        let image = self.image.image(read(&signature.bytes).code_limit)?;
+        let long = info.iter().chain(&resources).any(Lent::is_long);
+        let wanted = if long { 0 } else { read(&signature.bytes).code_limit };
+        let image = self.image.image(wanted)?;
         Ok(Files { signature, image, cache, info, resources })
     }
 }
@@ -134,7 +139,7 @@ fn run(arguments: &Arguments) -> Result<Outcome, String> {
     arguments.no_words()?;
     let launch = launch(arguments)?;
     let inputs = Inputs::open(arguments)?;
-    let out = arguments.path("--marks").map(|path| Out::new(path, &inputs.all())).transpose()?;
+    let out = arguments.path("--marks").map(|path| Out::new(path, inputs.all())).transpose()?;
     let files = inputs.lend()?;
     let (verdict, marks) = files.check(launch);
     let written = match out.filter(|_| verdict.wrote_marks()) {

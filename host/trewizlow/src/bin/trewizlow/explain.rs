@@ -62,7 +62,7 @@ fn find(word: &OsStr) -> Result<&'static Rule, String> {
     let rule = number(word).and_then(|number| Rule::of(number.try_into().ok()?));
     rule.ok_or_else(|| {
         let numbers = ranges(RULES.iter().map(|rule| rule.number));
-        format!("number {} is not in this tool's table, which has {numbers}", word.display())
+        format!("number {word:?} is not in this tool's table, which has {numbers}")
     })
 }
 

@@ -16,13 +16,19 @@ pub fn identity(metadata: &Metadata) -> Identity {
     (metadata.dev(), metadata.ino())
 }
 
+/// What is known of an input before it is read and after.
+pub struct Input {
+    pub path: PathBuf,
+    pub identity: Identity,
+}
+
 fn cannot_read(path: &Path, error: io::Error) -> String {
     format!("cannot read {path:?}: {error}")
 }
 
 /// A file that is open and not read yet.
 pub struct Opened {
-    pub path: PathBuf,
+    path: PathBuf,
     file: File,
     metadata: Metadata,
 }
@@ -42,8 +48,8 @@ impl Opened {
         Ok(Opened { path: path.to_path_buf(), file, metadata })
     }
 
-    pub fn identity(&self) -> Identity {
-        identity(&self.metadata)
+    pub fn input(&self) -> Input {
+        Input { path: self.path.clone(), identity: identity(&self.metadata) }
     }
 
     /// A small file: all its bytes, or one more than `most` where it has more. That one byte
@@ -119,13 +125,17 @@ pub struct Lent {
 }
 
 impl Lent {
+    /// True where the file has more bytes than any that is not refused for its length.
+    pub fn is_long(&self) -> bool {
+        self.bytes.len() > self.most
+    }
+
     /// What is odd about the file's length, for somebody who wonders at a refusal.
     pub fn note(&self) -> Option<String> {
         if self.empty {
             return Some(format!("{:?} is empty", self.path));
         }
-        let over = self.bytes.len() > self.most;
-        over.then(|| format!("{:?} is longer than {} bytes", self.path, self.most))
+        self.is_long().then(|| format!("{:?} is longer than {} bytes", self.path, self.most))
     }
 }
 

@@ -28,11 +28,14 @@ pub const CHECK: &str = "\
 usage: trewizlow check --signature FILE --image FILE --cache FILE [OPTIONS]
 
 The whole check. Prints one line: the refusal number (0 is accepted), the place, and in
-words what failed where. All files are opened before any is read.
+words what failed where. All files are opened before any is read, the image last.
 
   --signature FILE          the embedded signature (a SuperBlob), cut out of its Mach-O
                             file; README.md has the recipe
-  --image FILE              the image; bytes past the signature's code limit are not read
+  --image FILE              the image; bytes past the signature's code limit are not
+                            read. A regular file is mapped: no byte of it is read where
+                            one of tests 1 to 30 refuses. Anything else, such as a pipe,
+                            is read up to the code limit before the check
   --cache FILE              the trust cache
   --info-plist FILE         the Info.plist, where there is one
   --code-resources FILE     the CodeResources, where they are there
@@ -51,8 +54,10 @@ ones. A file that is replaced keeps its permissions; the check waits while a rec
 on from it. Behind a symbolic link the file is replaced and the link stays; under another
 hard link the old marks stay. A device or a pipe, such as /dev/stdout, is written to.
 Nothing is checked and the status is 2 where OUT is one of the files above (under any
-name), a directory, a read-only file, or a symbolic link that leads to no file. A run that
-is killed may leave a file .trewizlow-* beside OUT, which no run reads.
+name), a directory, a read-only file, a symbolic link that leads to no file, or lies where
+no file can be made. Where OUT has become one of the files above when the marks are to be
+written, it is left alone and the status is 2. The new file is made before the check as
+.trewizlow-* beside OUT; a run that is killed outright leaves it, and no run reads it.
 
 Numbers are decimal, or hexadecimal after 0x.
 
@@ -66,13 +71,15 @@ usage: trewizlow recheck --signature FILE --start N --length N --pages FILE --ma
 Checks the pages that the range of N bytes from N on meets. Prints one line: the refusal
 number, the place, and in words what failed where. Number 0 says that no mark is 1: every
 page agrees as last examined. The trust cache is not looked at. All files are opened
-before any is read.
+before any is read, the pages last.
 
   --signature FILE   the signature of the check that wrote the marks
   --start N          where the range starts in the image
   --length N         how many bytes it has
   --pages FILE       the new bytes of the pages met, from the start of the first to the
-                     end of the last (the image's last page is short); empty for length 0
+                     end of the last (the image's last page is short); empty for length
+                     0. A regular file is mapped; anything else, such as a pipe, is read
+                     up to the code limit and one byte before the recheck
   --marks FILE       the marks that the call before left. Brought up to date where the
                      answer is 0 or 31: a new file takes its place in one step, so that a
                      crash leaves the old marks or the new ones
@@ -83,8 +90,10 @@ before any is read.
 Rechecks that go on from one marks file wait for each other. The file keeps its
 permissions; behind a symbolic link the file is replaced and the link stays; under another
 hard link the old marks stay. Nothing is checked and the status is 2 where the marks are
-one of the files above (under any name), a read-only file, or no regular file. A run that
-is killed may leave a file .trewizlow-* beside the marks, which no run reads.
+one of the files above (under any name), a read-only file, no regular file, or lie where
+no file can be made. Where another file has taken their place when they are to be written,
+it is left alone and the status is 2. The new file is made before the recheck as
+.trewizlow-* beside the marks; killed outright a run leaves it, and no run reads it.
 
 Numbers are decimal, or hexadecimal after 0x.
 

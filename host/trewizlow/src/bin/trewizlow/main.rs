@@ -14,6 +14,7 @@ mod json;
 mod macho;
 mod map;
 mod marks;
+mod out;
 mod outcome;
 mod progress;
 mod recheck;

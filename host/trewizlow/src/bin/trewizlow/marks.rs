@@ -1,25 +1,29 @@
 //! The marks file: what may be one, and who replaces it, one after the other.
 
-use std::fs::{self, File, Metadata, OpenOptions};
-use std::io::{self, ErrorKind, Write};
-use std::os::fd::{AsFd, BorrowedFd};
+use std::fs::{self, File, OpenOptions};
+use std::io::{self, ErrorKind};
 use std::os::unix::fs::PermissionsExt;
 use std::path::{Path, PathBuf};
 
-use crate::files::{identity, Lent, Opened};
-use crate::progress::during;
-use crate::replace::replace;
+use crate::files::{identity, Identity, Input, Lent, Opened};
+use crate::progress::waiting;
+use crate::replace::Beside;
 
 /// The permission bits that let somebody write.
 const WRITABLE: u32 = 0o222;
 
-fn cannot_write(path: &Path, reason: impl std::fmt::Display) -> String {
+pub fn cannot_write(path: &Path, reason: impl std::fmt::Display) -> String {
     format!("cannot write the marks to {path:?}: {reason}")
 }
 
+/// What was looked at first has made room for something else, which is left alone.
+pub fn exchanged() -> io::Error {
+    io::Error::other("another file took its place meanwhile")
+}
+
 /// Replacing a file would destroy an input that it is, under whatever name.
-fn no_input(path: &Path, marks: &Metadata, inputs: &[&Opened]) -> Result<(), String> {
-    match inputs.iter().find(|input| input.identity() == identity(marks)) {
+pub fn no_input(path: &Path, marks: Identity, inputs: &[Input]) -> Result<(), String> {
+    match inputs.iter().find(|input| input.identity == marks) {
         Some(input) => {
             Err(format!("the marks {path:?} and the input {:?} are one file", input.path))
         }
@@ -27,9 +31,17 @@ fn no_input(path: &Path, marks: &Metadata, inputs: &[&Opened]) -> Result<(), Str
     }
 }
 
+/// Nothing is found there. A new file would take a symbolic link's place.
+pub fn no_link(path: &Path) -> Result<(), String> {
+    match path.is_symlink() {
+        true => Err(cannot_write(path, "the symbolic link leads to no file")),
+        false => Ok(()),
+    }
+}
+
 /// A marks file that is there. It is opened for writing to learn whether that is allowed; the
 /// bits are looked at because everything is allowed to a privileged user.
-fn open(path: &Path) -> io::Result<File> {
+pub fn open(path: &Path) -> io::Result<File> {
     let file = OpenOptions::new().read(true).write(true).open(path)?;
     let metadata = file.metadata()?;
     if metadata.permissions().mode() & WRITABLE == 0 {
@@ -42,33 +54,66 @@ fn open(path: &Path) -> io::Result<File> {
 }
 
 /// An error where the marks of a recheck cannot be brought up to date, before anything is read.
-pub fn examine(path: &Path, inputs: &[&Opened]) -> Result<(), String> {
-    let opened = open(path).and_then(|file| file.metadata());
-    no_input(path, &opened.map_err(|error| cannot_write(path, error))?, inputs)
+pub fn examine(path: &Path) -> Result<(), String> {
+    open(path).map(drop).map_err(|error| cannot_write(path, error))
 }
 
 /// A marks file under its lock, from reading the old marks to renaming the new ones.
 pub struct Held {
     path: PathBuf,
     file: File,
+    identity: Identity,
 }
 
 impl Held {
+    fn open(path: &Path) -> io::Result<Held> {
+        // Behind a symbolic link the file is replaced, not the link.
+        let (path, file) = (fs::canonicalize(path)?, open(path)?);
+        let identity = identity(&file.metadata()?);
+        Ok(Held { path, file, identity })
+    }
+
+    /// True where the file still stands at its path.
+    fn stands(&self) -> io::Result<bool> {
+        match fs::symlink_metadata(&self.path) {
+            Err(error) if error.kind() == ErrorKind::NotFound => Ok(false),
+            found => Ok(identity(&found?) == self.identity),
+        }
+    }
+
     /// Waits for the lock. Whoever had it may have put another file in this one's place, and
     /// then the lock is that file's to take.
-    fn wait(path: &Path) -> io::Result<Held> {
+    fn lock(path: &Path) -> io::Result<Held> {
         loop {
-            // Behind a symbolic link the file is replaced, not the link.
-            let held = Held { path: fs::canonicalize(path)?, file: open(path)? };
-            during("waiting for another run to release the marks", || held.file.lock())?;
-            if identity(&held.file.metadata()?) == identity(&fs::metadata(&held.path)?) {
+            let held = Held::open(path)?;
+            held.file.lock()?;
+            if held.stands()? {
                 return Ok(held);
             }
         }
     }
 
-    pub fn new(path: &Path) -> Result<Held, String> {
-        Held::wait(path).map_err(|error| cannot_write(path, error))
+    /// Waits for the lock, under which it is seen that the file is no input; none where
+    /// nothing is there.
+    pub fn wait(path: &Path, inputs: &[Input]) -> Result<Option<Held>, String> {
+        let what = "waiting for another run to release the marks";
+        let held = match waiting(what, || Held::lock(path)) {
+            Err(error) if error.kind() == ErrorKind::NotFound => {
+                return no_link(path).map(|()| None);
+            }
+            held => held.map_err(|error| cannot_write(path, error))?,
+        };
+        no_input(path, held.identity, inputs)?;
+        Ok(Some(held))
+    }
+
+    /// For a recheck: the old marks under their lock, and the file that is to take their place.
+    pub fn with_new(path: &Path, inputs: &[Input]) -> Result<(Held, Beside), String> {
+        let missing = || cannot_write(path, io::Error::from(ErrorKind::NotFound));
+        let held = Held::wait(path, inputs)?.ok_or_else(missing)?;
+        let old = held.file.metadata();
+        let new = old.and_then(|old| Beside::new(&held.path, Some(&old)));
+        Ok((held, new.map_err(|error| cannot_write(path, error))?))
     }
 
     pub fn read(&self, most: usize) -> Result<Lent, String> {
@@ -76,82 +121,18 @@ impl Held {
         opened.map_err(|error| format!("cannot read {:?}: {error}", self.path))?.read(most)
     }
 
-    fn put(self, bytes: &[u8]) -> io::Result<()> {
-        replace(&self.path, Some(&self.file.metadata()?), bytes)
-    }
-
-    pub fn replace(self, bytes: &[u8]) -> Result<(), String> {
-        let path = self.path.clone();
-        self.put(bytes).map_err(|error| cannot_write(&path, error))
-    }
-}
-
-/// Where a whole check's marks go.
-pub struct Out<'a> {
-    path: &'a Path,
-    kind: Kind,
-}
-
-enum Kind {
-    /// A regular file, or nothing yet.
-    File,
-    /// A device or a pipe.
-    Stream,
-    /// What standard output or standard error is: opened again, it would be cut.
-    Standard(File),
-}
-
-/// Standard output or standard error, where the marks go there, as with /dev/stdout.
-fn standard(marks: &Metadata) -> Option<File> {
-    let (output, error) = (io::stdout(), io::stderr());
-    let same = |stream: BorrowedFd| {
-        let file = File::from(stream.try_clone_to_owned().ok()?);
-        let metadata = file.metadata().ok()?;
-        (identity(&metadata) == identity(marks)).then_some(file)
-    };
-    same(output.as_fd()).or_else(|| same(error.as_fd()))
-}
-
-fn kind(path: &Path, inputs: &[&Opened]) -> Result<Kind, String> {
-    let marks = match fs::metadata(path) {
-        Err(error) if error.kind() == ErrorKind::NotFound && path.is_symlink() => {
-            return Err(cannot_write(path, "the symbolic link leads to no file"));
+    /// What somebody put there without the lock, perhaps an input, is not replaced.
+    fn put(&self, mut new: Beside, bytes: &[u8]) -> io::Result<()> {
+        new.resemble(&self.file.metadata()?)?;
+        new.write(bytes)?;
+        if !self.stands()? {
+            return Err(exchanged());
         }
-        Err(error) if error.kind() == ErrorKind::NotFound => return Ok(Kind::File),
-        found => found.map_err(|error| cannot_write(path, error))?,
-    };
-    no_input(path, &marks, inputs)?;
-    if let Some(file) = standard(&marks) {
-        return Ok(Kind::Standard(file));
-    }
-    if !marks.is_file() && !marks.is_dir() {
-        return Ok(Kind::Stream);
-    }
-    open(path).map(|_| Kind::File).map_err(|error| cannot_write(path, error))
-}
-
-impl<'a> Out<'a> {
-    /// An error where the marks cannot be written there, before anything is read.
-    pub fn new(path: &'a Path, inputs: &[&Opened]) -> Result<Out<'a>, String> {
-        Ok(Out { path, kind: kind(path, inputs)? })
+        new.rename(&self.path)
     }
 
-    fn put(&self, bytes: &[u8]) -> io::Result<()> {
-        match &self.kind {
-            Kind::Standard(file) => (&*file).write_all(bytes),
-            Kind::Stream => during("writing the marks", || {
-                OpenOptions::new().write(true).open(self.path)?.write_all(bytes)
-            }),
-            Kind::File => match Held::wait(self.path) {
-                Err(error) if error.kind() == ErrorKind::NotFound => {
-                    replace(self.path, None, bytes)
-                }
-                held => held?.put(bytes),
-            },
-        }
-    }
-
-    pub fn write(&self, bytes: &[u8]) -> Result<(), String> {
-        self.put(bytes).map_err(|error| cannot_write(self.path, error))
+    /// The new file takes the old one's place.
+    pub fn replace(self, new: Beside, bytes: &[u8]) -> Result<(), String> {
+        self.put(new, bytes).map_err(|error| cannot_write(&self.path, error))
     }
 }

@@ -1,4 +1,4 @@
-//! One line on the terminal that says what takes so long.
+//! One line on standard error that says what takes so long.
 
 use std::io::{stderr, IsTerminal, Write};
 use std::sync::atomic::{AtomicBool, Ordering};
@@ -26,14 +26,35 @@ pub fn during<T>(what: &str, work: impl FnOnce() -> T) -> T {
     if !stderr().is_terminal() {
         return work();
     }
+    beside(|ended| tell(&mut stderr(), what, SECOND, ended), work)
+}
+
+/// As `during`, for work that another process can hold up for ever: where standard error is no
+/// terminal, a line says so once, and stays.
+pub fn waiting<T>(what: &str, work: impl FnOnce() -> T) -> T {
+    if stderr().is_terminal() {
+        return during(what, work);
+    }
+    beside(|ended| tell_once(&mut stderr(), what, SECOND, ended), work)
+}
+
+/// Does the work, and meanwhile in a thread what is said of it, which ends with the channel.
+fn beside<T>(said: impl FnOnce(Receiver<()>) + Send, work: impl FnOnce() -> T) -> T {
     let (running, ended) = channel();
     thread::scope(|scope| {
         // Without a thread the work is done all the same.
-        let _ = Builder::new().spawn_scoped(scope, || tell(&mut stderr(), what, SECOND, ended));
+        let _ = Builder::new().spawn_scoped(scope, || said(ended));
         let done = work();
         drop(running);
         done
     })
+}
+
+/// One line after the interval, unless the other end of the channel is dropped before.
+fn tell_once(out: &mut impl Write, what: &str, interval: Duration, ended: Receiver<()>) {
+    if ended.recv_timeout(interval) == Err(RecvTimeoutError::Timeout) {
+        let _ = out.write_all(format!("trewizlow: {what}\n").as_bytes());
+    }
 }
 
 /// Rewrites the line at each interval until the other end of the channel is dropped.

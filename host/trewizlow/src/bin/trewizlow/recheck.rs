@@ -52,18 +52,21 @@ fn run(arguments: &Arguments) -> Result<Outcome, String> {
     let signature = arguments.wanted_path("--signature")?;
     let pages = arguments.wanted_path("--pages")?;
     let path = arguments.wanted_path("--marks")?;
-    let (signature, pages) = (Opened::new(signature)?, Opened::new(pages)?);
-    marks::examine(path, &[&signature, &pages])?;
+    let signature = Opened::new(signature)?;
+    marks::examine(path)?;
+    // The pages come last: where they are a pipe, opening it waits for whoever writes it.
+    let pages = Opened::new(pages)?;
+    let inputs = [signature.input(), pages.input()];
     let signature = signature.read(MOST_SIGNATURE_BYTES)?;
     let pages = pages.pages(read(&signature.bytes).code_limit)?;
-    let held = Held::new(path)?;
+    let (held, new) = Held::with_new(path, &inputs)?;
     let old = held.read(MOST_PAGES)?;
     let mut marks = old.bytes.to_vec();
     let what = format!("rechecking {}", mebibytes(&pages.bytes));
     let call = || recheck(&signature.bytes, start, length, &pages.bytes, &mut marks);
     let answer = during(&what, call);
     let written =
-        if answer.wrote_marks() { held.replace(&marks).map(|()| true) } else { Ok(false) };
+        if answer.wrote_marks() { held.replace(new, &marks).map(|()| true) } else { Ok(false) };
     let refused = !answer.wrote_marks();
     let mut notes = notes(refused, [&signature, &pages, &old]);
     notes.extend(macho::note(&signature).filter(|_| refused));
