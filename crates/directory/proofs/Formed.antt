@@ -17,6 +17,7 @@ use Rattle.superblob.specs.Rows.{rows}
 use Rattle.superblob.proofs.Formed.{formed-exactly}
 use Rattle.directory.specs.Rows.{directory, zeroAt, identLength, fieldRows, slotRows, blobRows, directoryRows, signatureRows}
 use Rattle.directory.specs.Formed.{DirectoryFormed, DirectoryExactly, SignatureExactly}
+use Rattle.directory.proofs.Flags.{flags-plainly}
 use Rattle.directory.proofs.Slots.{slots-inside}
 
 -- TEST 14
@@ -75,7 +76,7 @@ identifier d f =
 formed : (d : List ℕ) → Passes (blobRows d) → DirectoryFormed d
 unfolding blobRows fieldRows slotRows
 formed d p =
-    let q = p .1 .1 .1 .1 .1 in
+    let q = p .1 .1 .1 .1 .1 .1 in
     let l : identLength d < length d - identOffset d = omega (arith, ident-most d, q .1 .1 .0 .1) in
     record {
       version-known = p .0 (omega arith);
@@ -84,7 +85,8 @@ formed d p =
       hash-type = omega arith;
       hash-size = omega arith;
       page-size = one-of (pageSize d) (p .1 .1 .1 .0);
-      no-limit64 = p .1 .1 .1 .1 .0;
+      flags-allowed = flags-plainly .passes d .0 (p .1 .1 .1 .1 .0);
+      no-limit64 = p .1 .1 .1 .1 .1 .0;
       slot-a-page = omega arith;
       few-pages = omega arith;
       few-special-slots = omega arith;
@@ -105,6 +107,7 @@ formed-passes d f =
     then (f .has-version, f .has-head)
     then (f .hash-type, f .hash-size)
     then page-size-passes (pageSize d) (f .page-size)
+    then flags-plainly .passes d .1 (f .flags-allowed)
     then f .no-limit64
     then (f .slot-a-page, (f .few-pages, f .few-special-slots))
     then slots-inside d .1 (f .slots-inside)

@@ -2,6 +2,7 @@
 pub mod Numbers
 pub mod Versions
 pub mod Slots
+pub mod Flags
 pub mod Formed
 pub mod Found
 pub mod Pages

@@ -1,15 +1,16 @@
--- Tests 10 to 18 of document 01, and the slots. `d` is the directory's blob, `s` the lent signature, and `side` the length of the
--- longest side file that is there, 0 where none is.
+-- Tests 10 to 18 of document 01, and the slots. Test 46 of document 02 stands after 14, and "tests 1 to 18" have it among them. `d` is
+-- the directory's blob, `s` the lent signature, and `side` the length of the longest side file that is there, 0 where none is.
 use Prim.Native.Nat.{ℕ, _+_, _-_, _*_}
 use mathlib.Core.List.{List, [], _∷_, _++_}
 use mathlib.Core.Bool.{cond}
+use lib.Bits.{bitOr}
 use lib.ListN.{length, getD, take, drop}
 use Rattle.refusals.specs.Ranges.{Range, range, lookup}
 use Rattle.refusals.specs.Refusals.{_<?_, _≤?_, _≡?_, _≢?_, _and_, _or_, Cond, holds, lowest, Row, row}
 use Rattle.digest.specs.Hash.{digest}
 use Rattle.digest.specs.Sha256.{sha256}
 use Rattle.layout.specs.SuperBlob.{count}
-use Rattle.layout.specs.CodeDirectory.{directoryType, sha256Type, slotWidth, versionEnd, version, hashOffset, identOffset, nSpecialSlots, nCodeSlots, hashSize, hashType, pageSize, codeLimit64}
+use Rattle.layout.specs.CodeDirectory.{directoryType, sha256Type, allowedFlags, slotWidth, versionEnd, version, flags, hashOffset, identOffset, nSpecialSlots, nCodeSlots, hashSize, hashType, pageSize, codeLimit64}
 use Rattle.layout.specs.TrustCache.{cdhashLength}
 use Rattle.superblob.specs.Rows.{rows, position, blobOf}
 use Rattle.directory.specs.Pages.{pages}
@@ -63,6 +64,10 @@ headSize v = lookup headSizes 0 v
 unfoldable pub headOf : List ℕ → ℕ
 headOf d = headSize (version d)
 
+-- THE FLAGS: they hold a bit outside the allowed ones (specs/Flags.antt says it bit by bit)
+abbrev pub flagsOutside : List ℕ → Cond
+flagsOutside d = bitOr (flags d) allowedFlags ≢? allowedFlags
+
 -- THE SLOTS
 
 -- code slot i, from 0
@@ -106,6 +111,7 @@ fieldRows d =
     ∷ row 12 (length d <? versionEnd or length d <? headOf d) 0
     ∷ row 13 (hashType d ≢? sha256Type or hashSize d ≢? slotWidth) 0
     ∷ row 14 (pageSize d ≢? 0 and pageSize d ≢? 12 and pageSize d ≢? 14) 0
+    ∷ row 46 (flagsOutside d) 0
     ∷ row 15 (limit64Version ≤? version d and codeLimit64 d ≢? 0) 0
     ∷ []
 

@@ -1,8 +1,9 @@
-// The CodeDirectory of a signature: tests 10 to 18 of document 01, its fields and its slots.
+// The CodeDirectory of a signature: tests 10 to 18 of document 01 with 46 of document 02 after 14, its fields and its slots.
 //
 // The directory is the blob of type 0. It is refused where its version has no head size, where its head, a slot or the
-// identifier does not lie inside it, where its hash is not SHA-256, its page size not known or its code limit of 64 bits, and
-// where its slots are not those that its code limit asks for. The table of tests is specs/Rows.antt, its pages specs/Pages.antt.
+// identifier does not lie inside it, where its hash is not SHA-256, its page size not known, a flag not allowed or its code limit
+// of 64 bits, and where its slots are not those that its code limit asks for. The table of tests is specs/Rows.antt, its pages
+// specs/Pages.antt.
 ghost use mathlib.Core.Path.{_≡_};
 ghost use Prim.Native.Nat.{_-_, _<_};
 ghost use lib.ListN.{length};
@@ -89,7 +90,7 @@ fn blob_tested(d: &[u8]) -> Answer
     slots_tested(d)
 }
 
-// Tests 11 to 15: the head, the hash, the page size and the code limit.
+// Tests 11 to 15: the head, the hash, the page size, the flags (46) and the code limit.
 fn fields_tested(d: &[u8]) -> Answer
     ensures { λ r. ⌜ r ≡ first (fieldRows (now (d .entry))) accepted ⌝ }
 {
@@ -104,21 +105,29 @@ fn fields_tested(d: &[u8]) -> Answer
         return answer(12, 0);
     }
     let head = CodeDirectory::read(d);
-    if head.hash_type != CodeDirectory::SHA256 {
-        return answer(13, 0);
-    }
-    if head.hash_size != CodeDirectory::SLOT {
-        return answer(13, 0);
-    }
+    let hash_type = head.hash_type;
+    let hash_size = head.hash_size;
     let shift = head.page_shift;
+    let flags = head.flags;
+    let version = head.version;
+    let limit64 = head.code_limit64;
+    if hash_type != CodeDirectory::SHA256 {
+        return answer(13, 0);
+    }
+    if hash_size != CodeDirectory::SLOT {
+        return answer(13, 0);
+    }
     match shift {
         0 | 12 | 14 => {}
         _ => return answer(14, 0),
     }
-    if head.version < LIMIT64_VERSION {
+    if flags | CodeDirectory::ALLOWED_FLAGS != CodeDirectory::ALLOWED_FLAGS {
+        return answer(46, 0);
+    }
+    if version < LIMIT64_VERSION {
         return answer(0, 0);
     }
-    if head.code_limit64 != 0 {
+    if limit64 != 0 {
         return answer(15, 0);
     }
     answer(0, 0)

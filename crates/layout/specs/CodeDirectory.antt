@@ -20,6 +20,10 @@ directoryType = 0
 abbrev pub sha256Type : ℕ
 sha256Type = 2
 
+-- the flags that a directory may hold (CS_ALLOWED_MACHO)
+abbrev pub allowedFlags : ℕ
+allowedFlags = 0x33F02
+
 -- bytes of a slot: a SHA-256 hash
 abbrev pub slotWidth : ℕ
 slotWidth = 32

@@ -30,6 +30,10 @@ impl CodeDirectory {
     // The hash type that is taken (CS_HASHTYPE_SHA256).
     pub const SHA256: usize = 2;
 
+    // The flags that a directory may hold (CS_ALLOWED_MACHO): ADHOC, HARD, KILL, CHECK_EXPIRATION, RESTRICT, ENFORCEMENT, REQUIRE_LV,
+    // RUNTIME and LINKER_SIGNED.
+    pub const ALLOWED_FLAGS: usize = 0x33F02;
+
     // Bytes of the head, which grew with the version: the earliest, with scatter, with team, with codeLimit64, with the executable
     // segment, with the pre-encryption offset, with linkage (Apple's end_ marks).
     pub const HEAD_EARLIEST: usize = 44;

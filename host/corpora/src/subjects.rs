@@ -6,6 +6,7 @@ use reference::answer::NUMBERS;
 
 use crate::answers::answer;
 use crate::case::{Case, MARKS};
+use crate::cases::signatures::faults::TESTS;
 use crate::cases::{caches, checks, readers, signatures, slots};
 use crate::file::Writer;
 
@@ -19,16 +20,20 @@ struct Subject {
     wanted: Vec<u32>,
 }
 
+fn with_0(numbers: &[u32]) -> Vec<u32> {
+    [&[0], numbers].concat()
+}
+
 fn subjects() -> [Subject; 5] {
     let all = NUMBERS.to_vec();
     [
-        Subject { name: "signatures", cases: signatures::corpus, wanted: (0..=18).collect() },
-        Subject { name: "readers", cases: readers::corpus, wanted: (0..=18).collect() },
-        Subject { name: "slots", cases: slots::corpus, wanted: vec![0, 21, 22, 23] },
+        Subject { name: "signatures", cases: signatures::corpus, wanted: with_0(&TESTS) },
+        Subject { name: "readers", cases: readers::corpus, wanted: with_0(&TESTS) },
+        Subject { name: "slots", cases: slots::corpus, wanted: with_0(&[21, 22, 23]) },
         Subject {
             name: "caches",
             cases: caches::corpus,
-            wanted: [0].into_iter().chain(24..=30).collect(),
+            wanted: with_0(&[24, 25, 26, 27, 28, 29, 30]),
         },
         Subject { name: "checks", cases: checks::corpus, wanted: all },
     ]

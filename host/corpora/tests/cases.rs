@@ -5,6 +5,7 @@ use std::collections::BTreeSet;
 
 use corpora::case::{Case, SIGNATURE, TYPES};
 use corpora::cases::readers;
+use corpora::cases::signatures::faults::TESTS;
 use corpora::subjects;
 use reference::answer::Answer;
 use reference::directory;
@@ -35,7 +36,7 @@ fn places_of_readers_differ_from_numbers() {
     let refused = cases.iter().filter_map(|case| directory::read(signature(case), false).err());
     let refused: Vec<Answer> = refused.collect();
     let numbers: BTreeSet<u32> = refused.iter().map(|answer| answer.number).collect();
-    assert!(numbers.into_iter().eq(1..=18));
+    assert_eq!(numbers, BTreeSet::from(TESTS));
     for answer in refused.into_iter().filter(|answer| (5..=9).contains(&answer.number)) {
         assert!(answer.place != 0 && answer.place != u64::from(answer.number), "{answer:?}");
     }
@@ -54,6 +55,57 @@ fn readers_look_all_types_up() {
 fn answered(lines: &[String], name: &str) -> String {
     let line = lines.iter().find_map(|line| line.strip_prefix(&format!("{name}: ")));
     line.expect(name).split_whitespace().take(2).collect::<Vec<_>>().join(" ")
+}
+
+/// Of the 32 bits alone nine pass, in each call that makes test 46.
+#[test]
+fn bits_alone() {
+    let files = subjects::make();
+    let lines = |name: &str| &files.iter().find(|made| made.name == name).unwrap().lines;
+    for (file, call) in
+        [("signatures", "version 0x20001"), ("checks", "check"), ("checks", "recheck")]
+    {
+        let answers = (0..32).map(|bit| {
+            let name = format!("{call}, flags {:#x}", 1u32 << bit);
+            answered(lines(file), &name)
+        });
+        let passed: Vec<usize> =
+            answers.enumerate().filter(|(_, said)| said == "0 0").map(|(bit, _)| bit).collect();
+        assert_eq!(passed, [1, 8, 9, 10, 11, 12, 13, 16, 17], "{call}");
+        for flags in ["0x0", "0x33f02"] {
+            assert_eq!(answered(lines(file), &format!("{call}, flags {flags}")), "0 0");
+        }
+        for flags in ["0x1", "0x33f03", "0xffffffff"] {
+            assert_eq!(answered(lines(file), &format!("{call}, flags {flags}")), "46 0");
+        }
+    }
+}
+
+/// A lookup does not make test 46: it finds the directory where the other readers refuse.
+#[test]
+fn lookup_in_a_signature_with_all_flags() {
+    let files = subjects::make();
+    let lines = &files.iter().find(|made| made.name == "signatures").unwrap().lines;
+    let line = lines.iter().find(|line| line.starts_with("version 0x20001, flags 0xffffffff: "));
+    assert!(line.unwrap().contains(": 46 0 | - | 46 0 - | 0 0 0:20+"));
+}
+
+/// 46 against its neighbours in the table.
+#[test]
+fn flags_and_another_fault() {
+    let files = subjects::make();
+    let lines = &files.iter().find(|made| made.name == "signatures").unwrap().lines;
+    for (one, other, wanted) in [
+        (13, 46, "13 0"),
+        (14, 46, "14 0"),
+        (46, 15, "46 0"),
+        (46, 16, "46 0"),
+        (46, 17, "46 0"),
+        (46, 18, "46 0"),
+    ] {
+        let name = format!("faults {one} and {other} at position 2");
+        assert_eq!(answered(lines, &name), wanted, "{name}");
+    }
 }
 
 /// Cases whose answers document 01 gives.
@@ -102,6 +154,6 @@ fn number_of_cases() {
     let counts: Vec<(&str, usize)> =
         made.iter().map(|made| (made.name, made.lines.len())).collect();
     let wanted =
-        [("signatures", 2512), ("readers", 111), ("slots", 681), ("caches", 435), ("checks", 1144)];
+        [("signatures", 2669), ("readers", 117), ("slots", 682), ("caches", 435), ("checks", 1255)];
     assert_eq!(counts, wanted);
 }

@@ -17,6 +17,19 @@ pub const MOST_SPECIAL_SLOTS: u64 = 11;
 pub const CS_CDHASH_LEN: usize = 20;
 /// The first version that has codeLimit64.
 const WITH_CODE_LIMIT_64: u64 = 0x20300;
+const CS_ADHOC: u64 = 0x2;
+const CS_HARD: u64 = 0x100;
+const CS_KILL: u64 = 0x200;
+const CS_CHECK_EXPIRATION: u64 = 0x400;
+const CS_RESTRICT: u64 = 0x800;
+const CS_ENFORCEMENT: u64 = 0x1000;
+const CS_REQUIRE_LV: u64 = 0x2000;
+const CS_RUNTIME: u64 = 0x10000;
+const CS_LINKER_SIGNED: u64 = 0x20000;
+/// The flags that a directory may hold.
+#[rustfmt::skip]
+pub const CS_ALLOWED_MACHO: u64 = CS_ADHOC | CS_HARD | CS_KILL | CS_CHECK_EXPIRATION
+    | CS_RESTRICT | CS_ENFORCEMENT | CS_REQUIRE_LV | CS_RUNTIME | CS_LINKER_SIGNED;
 /// The end of the version field: a shorter directory has no version to test.
 const VERSION_END: u64 = 12;
 
@@ -187,6 +200,9 @@ fn test(directory: &Directory) -> Result<(), Answer> {
     }
     if ![0, 12, 14].contains(&directory.page_shift()) {
         return refuse(14);
+    }
+    if directory.flags() & !CS_ALLOWED_MACHO != 0 {
+        return refuse(46);
     }
     if directory.version() >= WITH_CODE_LIMIT_64 && be64(directory.bytes, 56) != 0 {
         return refuse(15);

@@ -1,4 +1,4 @@
-//! An independent checker of signed Mach-O images, written from document 01 alone.
+//! An independent checker of signed Mach-O images, written from documents 01 and 02 alone.
 //!
 //! It shares no code with the proved library. Its answers are what the library's
 //! answers are compared with. Tests stand in the paper's order under their numbers,

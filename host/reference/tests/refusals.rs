@@ -1,4 +1,4 @@
-//! Every number of document 01's table, reached by a small case.
+//! Every number of the table, reached by a small case.
 
 use reference::answer::Answer;
 use reference::inputs::{Inputs, InputsPlan, SYSTEM_SERVICE};
@@ -94,10 +94,23 @@ fn directory_10_to_18() {
     refused(&with_signature(|s| put32(s, DIRECTORY + 4, 11)), 12, 0);
     refused(&with_signature(|s| s[DIRECTORY + 37] = 1), 13, 0);
     refused(&with_signature(|s| s[DIRECTORY + 39] = 13), 14, 0);
+    refused(&with_signature(|s| put32(s, DIRECTORY + 12, 0x33F03)), 46, 0);
     refused(&with_signature(|s| s[DIRECTORY + 63] = 1), 15, 0);
     refused(&with_signature(|s| put32(s, DIRECTORY + 28, 2)), 16, 0);
     refused(&with_signature(|s| put32(s, DIRECTORY + 16, 439)), 17, 0);
     refused(&with_signature(|s| put32(s, DIRECTORY + 20, 87)), 18, 0);
+}
+
+/// CS_ALLOWED_MACHO of source document 000, which document 02 gives as 0x33F02.
+#[test]
+fn flags_46() {
+    assert_eq!(reference::directory::CS_ALLOWED_MACHO, 0x33F02);
+    for flags in [0, 2, 0x33F02] {
+        assert_eq!(with_plan(|p| p.directory.flags = flags).check(9).0.number, 0);
+    }
+    for flags in [1, 0x33F03, 0x80000002, u32::MAX] {
+        refused(&with_plan(|p| p.directory.flags = flags), 46, 0);
+    }
 }
 
 #[test]

@@ -1,10 +1,12 @@
 -- Each refusal is the first row that holds: the rows before it are the tests passed on the way.
-use mathlib.Core.Path.{_≡_, refl, _∙_}
+use mathlib.Core.Path.{_≡_, refl, ap, _∙_}
 use Prim.Native.Nat.{ℕ}
 use mathlib.Core.Logic.{_⊎_, inl, inr, ⊎-elim}
 use native.Mathlib.Omega.{arith}
+use lib.Bits.{bitOr}
 use Rattle.refusals.specs.Refusals.{accepted}
 use Rattle.refusals.proofs.Exact.{decides, passes}
+use Rattle.layout.specs.CodeDirectory.{allowedFlags}
 use Rattle.directory.specs.Rows.{fieldRows}
 use Rattle.directory.proofs.Versions.{version-known, version-unknown}
 use borrow.Author.Needs.{needs}
@@ -16,6 +18,10 @@ none-of x h = ((λ e. h (inl e)), (λ e. h (inr (inl e))), (λ e. h (inr (inr e)
 
 by-shift : {G : Type 0} (x : ℕ) → (x ≡ 0 → G) → (x ≡ 12 → G) → (x ≡ 14 → G) → (x ≡ 0) ⊎ ((x ≡ 12) ⊎ (x ≡ 14)) → G
 by-shift x f g h w = ⊎-elim f (⊎-elim g h) w
+
+-- the flags that are read join with the mask to what the row has
+same-join : (x y : ℕ) → x ≡ y → bitOr x allowedFlags ≡ bitOr y allowedFlags
+same-join x y e = ap (λ (z : ℕ). bitOr z allowedFlags) e
 
 answer-requires : tie.Need-answer-requires
 answer-requires c κs = search needs
@@ -54,7 +60,7 @@ answer-requires-4 c κs = search needs
 returns-4 : tie.Need-returns-4
 unfolding fieldRows
 returns-4 c =
-    let known = version-known _ _ (c .before .before .before .before .before .before .head-of .ensures .0) (c .before .before .before .before .before .if2 .left) in
+    let known = version-known _ _ (c .before .before .before .before .before .head-of .ensures .0) (c .before .before .before .before .if2 .left) in
     c .answer4 .ensures ∙ decides _ accepted _ _ (omega arith)
 
 answer-requires-5 : tie.Need-answer-requires-5
@@ -63,7 +69,7 @@ answer-requires-5 c κs = search needs
 returns-5 : tie.Need-returns-5
 unfolding fieldRows
 returns-5 c =
-    let known = version-known _ _ (c .before .before .before .before .before .before .before .before .head-of .ensures .0) (c .before .before .before .before .before .before .before .if2 .left) in
+    let known = version-known _ _ (c .before .before .before .before .before .before .head-of .ensures .0) (c .before .before .before .before .before .if2 .left) in
     c .answer5 .ensures ∙ decides _ accepted _ _ (omega arith)
 
 answer-requires-6 : tie.Need-answer-requires-6
@@ -72,7 +78,7 @@ answer-requires-6 c κs = search needs
 returns-6 : tie.Need-returns-6
 unfolding fieldRows
 returns-6 c =
-    let known = version-known _ _ (c .before .before .before .before .before .before .before .before .before .head-of .ensures .0) (c .before .before .before .before .before .before .before .before .if2 .left) in
+    let known = version-known _ _ (c .before .before .before .before .before .before .before .head-of .ensures .0) (c .before .before .before .before .before .before .if2 .left) in
     let k = none-of _ (c .before .match .rest .1) in
     c .answer6 .ensures ∙ decides _ accepted _ _ (omega arith)
 
@@ -82,8 +88,9 @@ answer-requires-7 c κs = search needs
 returns-7 : tie.Need-returns-7
 unfolding fieldRows
 returns-7 c =
-    let known = version-known _ _ (c .before .before .before .before .before .before .before .before .before .before .before .head-of .ensures .0) (c .before .before .before .before .before .before .before .before .before .before .if2 .left) in
-    by-shift _ (λ e. c .answer7 .ensures ∙ passes _ accepted (omega arith)) (λ e. c .answer7 .ensures ∙ passes _ accepted (omega arith)) (λ e. c .answer7 .ensures ∙ passes _ accepted (omega arith)) (c .before .before .before .match .keys1)
+    let known = version-known _ _ (c .before .before .before .before .before .before .before .before .head-of .ensures .0) (c .before .before .before .before .before .before .before .if2 .left) in
+    let joined = same-join _ _ (c .before .before .before .before .before .read .ensures .flags-is) in
+    by-shift _ (λ e. c .answer7 .ensures ∙ decides _ accepted _ _ (omega arith)) (λ e. c .answer7 .ensures ∙ decides _ accepted _ _ (omega arith)) (λ e. c .answer7 .ensures ∙ decides _ accepted _ _ (omega arith)) (c .before .before .match .keys1)
 
 answer-requires-8 : tie.Need-answer-requires-8
 answer-requires-8 c κs = search needs
@@ -91,8 +98,9 @@ answer-requires-8 c κs = search needs
 returns-8 : tie.Need-returns-8
 unfolding fieldRows
 returns-8 c =
-    let known = version-known _ _ (c .before .before .before .before .before .before .before .before .before .before .before .before .before .head-of .ensures .0) (c .before .before .before .before .before .before .before .before .before .before .before .before .if2 .left) in
-    by-shift _ (λ e. c .answer8 .ensures ∙ decides _ accepted _ _ (omega arith)) (λ e. c .answer8 .ensures ∙ decides _ accepted _ _ (omega arith)) (λ e. c .answer8 .ensures ∙ decides _ accepted _ _ (omega arith)) (c .before .before .before .before .before .match .keys1)
+    let known = version-known _ _ (c .before .before .before .before .before .before .before .before .before .head-of .ensures .0) (c .before .before .before .before .before .before .before .before .if2 .left) in
+    let joined = same-join _ _ (c .before .before .before .before .before .before .read .ensures .flags-is) in
+    by-shift _ (λ e. c .answer8 .ensures ∙ passes _ accepted (omega arith)) (λ e. c .answer8 .ensures ∙ passes _ accepted (omega arith)) (λ e. c .answer8 .ensures ∙ passes _ accepted (omega arith)) (c .before .before .before .match .keys1)
 
 answer-requires-9 : tie.Need-answer-requires-9
 answer-requires-9 c κs = search needs
@@ -100,8 +108,19 @@ answer-requires-9 c κs = search needs
 returns-9 : tie.Need-returns-9
 unfolding fieldRows
 returns-9 c =
-    let known = version-known _ _ (c .before .before .before .before .before .before .before .before .before .before .before .before .before .head-of .ensures .0) (c .before .before .before .before .before .before .before .before .before .before .before .before .if2 .left) in
-    by-shift _ (λ e. c .answer9 .ensures ∙ passes _ accepted (omega arith)) (λ e. c .answer9 .ensures ∙ passes _ accepted (omega arith)) (λ e. c .answer9 .ensures ∙ passes _ accepted (omega arith)) (c .before .before .before .before .before .match .keys1)
+    let known = version-known _ _ (c .before .before .before .before .before .before .before .before .before .before .head-of .ensures .0) (c .before .before .before .before .before .before .before .before .before .if2 .left) in
+    let joined = same-join _ _ (c .before .before .before .before .before .before .before .read .ensures .flags-is) in
+    by-shift _ (λ e. c .answer9 .ensures ∙ decides _ accepted _ _ (omega arith)) (λ e. c .answer9 .ensures ∙ decides _ accepted _ _ (omega arith)) (λ e. c .answer9 .ensures ∙ decides _ accepted _ _ (omega arith)) (c .before .before .before .before .match .keys1)
+
+answer-requires-10 : tie.Need-answer-requires-10
+answer-requires-10 c κs = search needs
+
+returns-10 : tie.Need-returns-10
+unfolding fieldRows
+returns-10 c =
+    let known = version-known _ _ (c .before .before .before .before .before .before .before .before .before .before .head-of .ensures .0) (c .before .before .before .before .before .before .before .before .before .if2 .left) in
+    let joined = same-join _ _ (c .before .before .before .before .before .before .before .read .ensures .flags-is) in
+    by-shift _ (λ e. c .answer10 .ensures ∙ passes _ accepted (omega arith)) (λ e. c .answer10 .ensures ∙ passes _ accepted (omega arith)) (λ e. c .answer10 .ensures ∙ passes _ accepted (omega arith)) (c .before .before .before .before .match .keys1)
 
 pub fields-tested-spec : {M : Type 1} → statement M
 fields-tested-spec =
@@ -126,4 +145,6 @@ fields-tested-spec =
     answer-requires-8
     returns-8
     answer-requires-9
-    returns-9)
+    returns-9
+    answer-requires-10
+    returns-10)

@@ -12,6 +12,7 @@ use crate::case::{operation, Case, CACHE, FACTS, IMAGE, INFO, MARKS, RANGE, RESO
 
 mod chains;
 mod faults;
+mod flags;
 mod rechecks;
 mod whole;
 
@@ -45,6 +46,7 @@ pub struct Call {
 pub fn cases() -> Vec<Call> {
     let mut calls = Vec::new();
     whole::add(&mut calls);
+    flags::add(&mut calls);
     rechecks::add(&mut calls);
     chains::add(&mut calls);
     calls

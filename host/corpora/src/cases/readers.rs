@@ -4,7 +4,7 @@
 use reference::directory::head_size;
 use reference::make::{blob_of, DirectoryPlan, SignaturePlan};
 
-use super::signatures::faults::Subject;
+use super::signatures::faults::{Subject, TESTS};
 use super::signatures::{looked_up, Named, KNOWN};
 use crate::case::Case;
 
@@ -34,7 +34,7 @@ struct Reader {
 const READERS: [Reader; 6] = [
     Reader {
         version: 0x20001,
-        flags: 0x10002,
+        flags: 0x1_0002,
         platform: 7,
         page_shift: 12,
         special: 3,
@@ -45,7 +45,7 @@ const READERS: [Reader; 6] = [
     },
     Reader {
         version: 0x20102,
-        flags: 0x20A,
+        flags: 0x202,
         platform: 1,
         page_shift: 14,
         special: 5,
@@ -56,7 +56,7 @@ const READERS: [Reader; 6] = [
     },
     Reader {
         version: 0x20200,
-        flags: 0xFFFF_FFFF,
+        flags: 0x3_3F02,
         platform: 200,
         page_shift: 12,
         special: 11,
@@ -67,7 +67,7 @@ const READERS: [Reader; 6] = [
     },
     Reader {
         version: 0x20400,
-        flags: 0x8000_0000,
+        flags: 0x2_0000,
         platform: 6,
         page_shift: 14,
         special: 8,
@@ -78,7 +78,7 @@ const READERS: [Reader; 6] = [
     },
     Reader {
         version: 0x20600,
-        flags: 0x31337,
+        flags: 0x3_1300,
         platform: 255,
         page_shift: 12,
         special: 4,
@@ -134,7 +134,8 @@ impl Reader {
         let subject = self.subject();
         let name = format!("reader of version {:#x}", self.version);
         let mut cases = vec![Named { name: name.clone(), signature: subject.bytes() }];
-        let tests = (1..=18).filter(|&number| number != 15 || self.version >= WITH_CODE_LIMIT_64);
+        let has_15 = self.version >= WITH_CODE_LIMIT_64;
+        let tests = TESTS.into_iter().filter(|&number| number != 15 || has_15);
         for number in tests {
             let mut signature = subject.bytes();
             subject.damage(&mut signature, number, self.position);

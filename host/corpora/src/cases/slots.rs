@@ -235,7 +235,14 @@ fn refused_before(cases: &mut Vec<Case>) {
     let mut plan = Plan::full();
     plan.there[1] = false;
     let directory = 12 + 8 * 8;
-    for (at, value) in [(0, 0), (8, 0xFF), (12, 0x40), (directory + 8, 1), (directory + 37, 1)] {
+    for (at, value) in [
+        (0, 0),
+        (8, 0xFF),
+        (12, 0x40),
+        (directory + 8, 1),
+        (directory + 37, 1),
+        (directory + 15, 1),
+    ] {
         let mut signature = plan.signature();
         signature[at] = value;
         let name = format!("slot 1 without its thing, signature byte {at} changed");

@@ -28,12 +28,17 @@ pub const OUTSIDE: [Fault; 13] = [
     ("image a byte short", |s| s.image.truncate(8192)),
 ];
 
-/// In the signature: from 18 down to 1.
-pub const SIGNATURE: [Fault; 18] = [
+/// CS_DATAVAULT_CONTROLLER beside CS_ADHOC.
+pub const FLAGS: Fault =
+    ("flags 0x80000002", |s| put32(&mut s.signature, DIRECTORY + 12, 0x80000002));
+
+/// In the signature: from 18 down to 1, 46 among them.
+pub const SIGNATURE: [Fault; 19] = [
     ("identOffset 87", |s| put32(&mut s.signature, DIRECTORY + 20, 87)),
     ("hashOffset 439", |s| put32(&mut s.signature, DIRECTORY + 16, 439)),
     ("two code slots", |s| put32(&mut s.signature, DIRECTORY + 28, 2)),
     ("codeLimit64 not 0", |s| s.signature[DIRECTORY + 56] = 1),
+    FLAGS,
     ("pageSize 1", |s| s.signature[DIRECTORY + 39] = 1),
     ("hash size 20", |s| s.signature[DIRECTORY + 36] = 20),
     ("directory length 87", |s| put32(&mut s.signature, DIRECTORY + 4, 87)),

@@ -20,6 +20,8 @@ pub fn add(cases: &mut Cases) {
     short_directories(cases);
     hash_kinds(cases);
     page_shifts(cases);
+    flags(cases);
+    other_flags(cases);
     code_limits_64(cases);
     code_limits(cases);
     many_slots(cases);
@@ -119,6 +121,38 @@ fn page_shifts(cases: &mut Cases) {
     let good = single(&one_page(0x20200, 1));
     for shift in (0..=17).chain([31, 32, 44, 46, 64, 76, 78, 128, 140, 255]) {
         cases.add(format!("pageSize {shift}"), with8(&good, START + 39, shift));
+    }
+}
+
+/// CS_ALLOWED_MACHO.
+const ALLOWED: u32 = 0x33F02;
+
+/// Test 46: each bit alone, with all that are allowed, and left out of them; numbers about the
+/// mask, and the mask's bytes in another order.
+fn flags(cases: &mut Cases) {
+    for (version, special) in [(0x20001, 1), (0x20400, 0)] {
+        let mut plan = one_page(version, special);
+        plan.identifier = b"flags".to_vec();
+        let good = single(&plan);
+        let bits = (0..32).map(|bit| 1 << bit);
+        let masks = [0, ALLOWED - 1, ALLOWED, ALLOWED + 1, !ALLOWED, !0, ALLOWED.swap_bytes()];
+        let with = bits.clone().map(|bit| ALLOWED | bit);
+        let without = bits.clone().map(|bit| ALLOWED & !bit);
+        for flags in bits.chain(masks).chain(with).chain(without) {
+            let name = format!("version {version:#x}, flags {flags:#x}");
+            cases.add(name, with32(&good, START + 12, flags));
+        }
+    }
+}
+
+/// Flags that are not the directory's: test 46 does not read them.
+fn other_flags(cases: &mut Cases) {
+    let mut alternate = one_page(0x20400, 1);
+    alternate.flags = !0;
+    for kind in [0x1000, 0x1004] {
+        let blobs = vec![(0, one_page(0x20400, 1).bytes()), (kind, alternate.bytes())];
+        let name = format!("all flags in the directory of type {kind:#x}");
+        cases.add(name, SignaturePlan::new(blobs).bytes());
     }
 }
 
@@ -357,9 +391,6 @@ fn free_fields(cases: &mut Cases) {
         let plan = one_page(version, 2);
         let good = single(&plan);
         let name = |what: String| format!("version {version:#x}, {what}");
-        for flags in [0, 0x20002, 0xFFFFFFFF] {
-            cases.add(name(format!("flags {flags:#x}")), with32(&good, START + 12, flags));
-        }
         for platform in [1, 255] {
             cases.add(name(format!("platform {platform}")), with8(&good, START + 38, platform));
         }

@@ -1,7 +1,7 @@
 //! Cases with two faults: the order of the tests decides, and one test runs over all
 //! positions before the next.
 
-use super::faults::Subject;
+use super::faults::{Subject, TESTS};
 use super::{one_page, signature_of, Cases};
 
 /// A good signature of five blobs, the directory in the middle.
@@ -24,8 +24,8 @@ pub fn add(cases: &mut Cases) {
 
 /// Each pair of numbers, faults over positions at the directory and away from it.
 fn two_numbers(cases: &mut Cases) {
-    for one in 2..=18 {
-        for other in one..=18 {
+    for (at, &one) in TESTS.iter().enumerate().skip(1) {
+        for &other in &TESTS[at..] {
             for position in if one < 10 { [1, 3] } else { [DIRECTORY; 2] } {
                 let mut bytes = base().bytes();
                 base().damage(&mut bytes, other, position);
@@ -54,7 +54,7 @@ fn two_positions(cases: &mut Cases) {
 
 /// A fault behind the point where the signature ends: the cut is met first or not.
 fn cut_with_fault(cases: &mut Cases) {
-    for number in 2..=18 {
+    for &number in &TESTS[1..] {
         let mut bytes = base().bytes();
         base().damage(&mut bytes, number, 1);
         for length in [11, 52, bytes.len() - 1] {
