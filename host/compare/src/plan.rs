@@ -1,5 +1,6 @@
 //! Inputs that a whole check accepts.
 
+use reference::directory::CS_ALLOWED_MACHO;
 use reference::inputs::{InputsPlan, SYSTEM_SERVICE};
 use reference::make::blob_of;
 use reference::random::Random;
@@ -56,7 +57,7 @@ pub fn good(random: &mut Random) -> InputsPlan {
     let version = *random.pick(&VERSIONS);
     let image = image(random);
     let mut plan = InputsPlan::new(version, image, *random.pick(&[12, 12, 14, 0]));
-    plan.directory.flags = random.number() as u32;
+    plan.directory.flags = random.number() as u32 & CS_ALLOWED_MACHO as u32;
     plan.directory.platform = random.byte();
     plan.directory.identifier = some_bytes(30, random).into_iter().map(|b| b | 1).collect();
     plan.directory.tail = some_bytes(20, random);

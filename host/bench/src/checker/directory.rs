@@ -6,6 +6,9 @@ use crate::plain;
 
 pub const SLOT: usize = 32;
 
+/// CS_ALLOWED_MACHO: the flags that a directory may hold.
+const ALLOWED_FLAGS: u32 = 0x33F02;
+
 /// A directory that passed, with the fields that later tests read.
 pub struct Directory<'a> {
     bytes: &'a [u8],
@@ -49,6 +52,9 @@ fn head<'a>(index: &Index<'a>) -> Tested<(&'a [u8], usize)> {
     }
     if !matches!(bytes[39], 0 | 12 | 14) {
         return refuse(14);
+    }
+    if be32(bytes, 12) & !ALLOWED_FLAGS != 0 {
+        return refuse(46);
     }
     if version >= 0x20300 && bytes[56..64] != [0; 8] {
         return refuse(15);

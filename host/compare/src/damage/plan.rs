@@ -10,10 +10,11 @@ use crate::plan::{some_bytes, OTHERS};
 
 type Damage = fn(&mut InputsPlan, &mut Random);
 
-const DAMAGES: [Damage; 20] = [
+const DAMAGES: [Damage; 21] = [
     version,
     hash_kind,
     page_shift,
+    flags,
     code_limit64,
     code_count,
     code_limit,
@@ -52,6 +53,11 @@ fn hash_kind(plan: &mut InputsPlan, random: &mut Random) {
 /// One of the known sizes does not refuse here: the counts or the pages then do.
 fn page_shift(plan: &mut InputsPlan, random: &mut Random) {
     plan.directory.page_shift = *random.pick(&[0, 1, 2, 11, 12, 13, 14, 15, 16, 128, 255]);
+}
+
+/// An allowed bit does not refuse here.
+fn flags(plan: &mut InputsPlan, random: &mut Random) {
+    plan.directory.flags ^= 1 << random.below(32);
 }
 
 fn code_limit64(plan: &mut InputsPlan, random: &mut Random) {
