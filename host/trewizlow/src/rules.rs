@@ -1,4 +1,4 @@
-//! The table of refusals in words (document 01).
+//! The table of refusals in words (documents 01 and 02).
 
 /// One number of the table.
 pub struct Rule {
@@ -159,6 +159,9 @@ pub static RULES: &[Rule] = &[
     rule(34, "the mark of page {place} is neither 0 nor 1",
         "a mark is neither 0 nor 1",
         PAGE, RECHECK),
+    rule(46, "the directory's flags hold a bit that is not allowed",
+        "flags hold a bit outside CS_ALLOWED_MACHO, 0x33F02: CS_ADHOC 0x2, CS_HARD 0x100, CS_KILL 0x200, CS_CHECK_EXPIRATION 0x400, CS_RESTRICT 0x800, CS_ENFORCEMENT 0x1000, CS_REQUIRE_LV 0x2000, CS_RUNTIME 0x10000, CS_LINKER_SIGNED 0x20000; tested after 14 and before 15",
+        "", READING),
 ];
 
 #[cfg(test)]

@@ -132,11 +132,73 @@ fn show_prints_parts() {
     let hash = trewizlow::cdhash(&std::fs::read(&signature).unwrap()).hash;
     let hash: String = hash.iter().map(|byte| format!("{byte:02x}")).collect();
     assert!(status == 0 && out.contains(&format!("\"cdhash\":\"{hash}\"")));
-    assert!(out.contains("\"well_formed\":true") && out.contains("tests 1 to 18 pass"));
+    assert!(out.contains("\"well_formed\":true") && out.contains("tests 1 to 18 and 46 pass"));
     let (status, out, _) = run(&["show", &sample("cache.bin")]);
     assert!(status == 1 && out.starts_with("2 0 refused: "));
     let (_, out, _) = run(&["show", "--json", &sample("cache.bin")]);
     assert!(out.contains("\"well_formed\":false") && !out.contains("accepted"));
+}
+
+/// The samples' signature with these flags.
+fn with_flags(scratch: &Scratch, flags: u32) -> String {
+    let mut plan = reference::samples::plan();
+    plan.directory.flags = flags;
+    scratch.file("signature", &plan.covered().build().signature)
+}
+
+#[test]
+fn show_names_flags() {
+    let scratch = Scratch::new("flags");
+    let signature = with_flags(&scratch, 0x1_0002);
+    let (status, out, err) = run(&["show", &signature]);
+    assert!(status == 0 && out.contains("  flags          0x10002 (CS_ADHOC, CS_RUNTIME)\n"));
+    assert_eq!(err, "");
+    let (_, out, _) = run(&["show", "--json", &signature]);
+    assert!(out.contains("\"flags\":65538,\"flag_names\":[\"CS_ADHOC\",\"CS_RUNTIME\"]"));
+    assert!(!out.contains("flags_not_allowed"));
+}
+
+/// Refusal 46 by every command that answers it, each naming what is not allowed.
+#[test]
+fn flags_that_are_not_allowed() {
+    let scratch = Scratch::new("not-allowed");
+    let signature = with_flags(&scratch, 0x8000_0042);
+    let (image, cache) = (sample("image.bin"), sample("cache.bin"));
+    let marks = scratch.file("marks", &[0, 1, 1]);
+    let refused = "46 0 refused: the directory's flags hold a bit that is not allowed\n";
+    let note =
+        "trewizlow: note: the directory's flags, 0x80000042, hold what is not allowed (46): \
+                0x40, CS_DATAVAULT_CONTROLLER\n";
+    for command in [
+        vec!["show", &signature],
+        check(&signature, &image, &cache),
+        recheck(&signature, ["0", "1"], &image, &marks),
+    ] {
+        let (status, out, err) = run(&command);
+        assert!(status == 1 && out.ends_with(refused), "{out}");
+        assert!(err.ends_with(note), "{err}");
+    }
+    assert_eq!(scratch.read("marks"), [0, 1, 1]);
+    let (status, out, _) = run(&["show", "--json", &signature]);
+    assert!(status == 1 && out.starts_with("{\"number\":46,\"place\":0,"));
+    assert!(out.contains("\"flags_not_allowed\":[\"0x40\",\"CS_DATAVAULT_CONTROLLER\"]"));
+}
+
+/// The bits and names of `explain 46` are those that `show` lets pass, each of them.
+#[test]
+fn explain_names_the_allowed_flags() {
+    let scratch = Scratch::new("allowed");
+    let (_, out, _) = run(&["explain", "46"]);
+    // The mask and the nine.
+    assert_eq!(out.matches("CS_").count(), 10);
+    for bit in (0..32).map(|i| 1u32 << i) {
+        let signature = with_flags(&scratch, bit);
+        let (status, shown, _) = run(&["show", &signature]);
+        let named = shown.lines().find_map(|line| line.trim().strip_prefix("flags "));
+        let name = named.and_then(|flags| flags.split(['(', ')']).nth(1));
+        let allowed = name.is_some_and(|name| out.contains(&format!("{name} {bit:#x}")));
+        assert_eq!(status == 0, allowed, "{bit:#x}");
+    }
 }
 
 #[test]
@@ -152,7 +214,10 @@ fn explain_every_number() {
 #[test]
 fn explain_unknown_numbers() {
     let last = trewizlow::RULES.last().unwrap().number;
-    for word in [(last + 1).to_string(), "4294967296".to_string(), "x".to_string()] {
+    let numbers: Vec<u32> = trewizlow::RULES.iter().map(|rule| rule.number).collect();
+    let gap = (0..last).find(|number| !numbers.contains(number)).unwrap();
+    for word in [gap.to_string(), (last + 1).to_string(), "4294967296".to_string(), "x".to_string()]
+    {
         let (status, out, err) = run(&["explain", &word]);
         assert_eq!((status, out.as_str()), (2, ""));
         let sentence = format!("number {word:?} is not in this tool's table, which has 0 to ");

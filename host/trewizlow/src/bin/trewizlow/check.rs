@@ -7,10 +7,10 @@ use crate::command::Command;
 use crate::files::{mebibytes, notes, Input, Lent, Opened};
 use crate::help;
 use crate::json;
-use crate::macho;
 use crate::out::Out;
 use crate::outcome::Outcome;
 use crate::progress::during;
+use crate::remarks::remarks;
 
 pub const COMMAND: Command = Command {
     called: &["check"],
@@ -121,7 +121,7 @@ impl Files {
     fn notes(&self, refused: bool) -> Vec<String> {
         let files = [&self.signature, &self.cache, &self.image];
         let lengths = notes(refused, files.into_iter().chain(&self.info).chain(&self.resources));
-        lengths.into_iter().chain(macho::note(&self.signature).filter(|_| refused)).collect()
+        lengths.into_iter().chain(remarks(&self.signature)).collect()
     }
 }
 

@@ -103,15 +103,17 @@ exit status: 0 no mark is 1, 1 refused, 2 usage or input error
 pub const SHOW: &str = "\
 usage: trewizlow show [--all-slots] [--json] SIGNATURE
 
-Prints the signature's blobs, and the directory's fields, slots and cdhash. A refusal is
-printed in the place of what cannot be read. A Mach-O file is refused: its signature has
-to be cut out first, for which README.md has the recipe.
+Prints the signature's blobs, and the directory's fields, slots and cdhash, its flags by
+Apple's names. A refusal is printed in the place of what cannot be read; flags that are
+not allowed are named on standard error. A Mach-O file is refused: its signature has to be
+cut out first, for which README.md has the recipe.
 
   --all-slots   print every code slot, not the first 16 alone
-  --json        print an object: number, place, well_formed, message, blobs, and the
-                directory with every code slot; error where the status is 2
+  --json        print an object: number, place, well_formed, message, blobs,
+                flags_not_allowed where there are any, and the directory with every
+                code slot; error where the status is 2
 
-exit status: 0 well formed (tests 1 to 18), 1 refused, 2 usage or input error
+exit status: 0 well formed (tests 1 to 18 and 46), 1 refused, 2 usage or input error
 ";
 
 pub const EXPLAIN: &str = "\

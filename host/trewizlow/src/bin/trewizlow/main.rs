@@ -9,6 +9,7 @@ mod command;
 mod explain;
 mod fault;
 mod files;
+mod flags;
 mod help;
 mod json;
 mod macho;
@@ -18,6 +19,7 @@ mod out;
 mod outcome;
 mod progress;
 mod recheck;
+mod remarks;
 mod replace;
 mod show;
 

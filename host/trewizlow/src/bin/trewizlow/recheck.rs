@@ -7,10 +7,10 @@ use crate::command::Command;
 use crate::files::{mebibytes, notes, Opened};
 use crate::help;
 use crate::json;
-use crate::macho;
 use crate::marks::{self, Held};
 use crate::outcome::Outcome;
 use crate::progress::during;
+use crate::remarks::remarks;
 
 pub const COMMAND: Command = Command {
     called: &["recheck"],
@@ -69,7 +69,7 @@ fn run(arguments: &Arguments) -> Result<Outcome, String> {
         if answer.wrote_marks() { held.replace(new, &marks).map(|()| true) } else { Ok(false) };
     let refused = !answer.wrote_marks();
     let mut notes = notes(refused, [&signature, &pages, &old]);
-    notes.extend(macho::note(&signature).filter(|_| refused));
+    notes.extend(remarks(&signature));
     Ok(Outcome {
         text: text(&answer, &written, arguments.json()),
         passed: answer.accepted(),

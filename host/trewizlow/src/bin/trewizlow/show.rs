@@ -12,8 +12,8 @@ use crate::arguments::{Arguments, Names};
 use crate::command::Command;
 use crate::files::{notes, Opened};
 use crate::help;
-use crate::macho;
 use crate::outcome::Outcome;
+use crate::remarks::remarks;
 use names::BLOBS;
 
 pub const COMMAND: Command = Command {
@@ -84,6 +84,6 @@ fn run(arguments: &Arguments) -> Result<Outcome, String> {
     };
     let passed = shown.answer().accepted();
     let mut notes = notes(!passed, [&file]);
-    notes.extend(macho::note(&file));
+    notes.extend(remarks(&file));
     Ok(Outcome { passed, notes, ..Outcome::text(text) })
 }

@@ -1,9 +1,10 @@
 //! A signature as a JSON object.
 
 use super::{hex, Shown};
+use crate::flags;
 use crate::json::{answer, array, object, string};
 
-const WELL_FORMED: &str = "the signature is well formed: tests 1 to 18 pass";
+const WELL_FORMED: &str = "the signature is well formed: tests 1 to 18 and 46 pass";
 
 pub fn text(shown: &Shown) -> String {
     let said = shown.answer();
@@ -11,10 +12,18 @@ pub fn text(shown: &Shown) -> String {
     let sentence = if said.accepted() { WELL_FORMED.to_string() } else { said.sentence() };
     let mut members = answer(said.number, said.place, well_formed, &sentence);
     members.push(("blobs", blobs(shown)));
+    let not_allowed = flags::not_allowed(shown.signature);
+    if !not_allowed.is_empty() {
+        members.push(("flags_not_allowed", strings(&not_allowed)));
+    }
     if said.accepted() {
         members.push(("directory", directory(shown)));
     }
     object(&members) + "\n"
+}
+
+fn strings(words: &[String]) -> String {
+    array(words.iter().map(|word| string(word)))
 }
 
 fn blobs(shown: &Shown) -> String {
@@ -38,6 +47,7 @@ fn directory(shown: &Shown) -> String {
         ("length", d.length.to_string()),
         ("version", d.version.to_string()),
         ("flags", d.flags.to_string()),
+        ("flag_names", strings(&flags::names(d.flags))),
         ("hash_offset", d.hash_offset.to_string()),
         ("ident_offset", d.ident_offset.to_string()),
         ("hash_size", d.hash_size.to_string()),

@@ -4,6 +4,7 @@ use std::fmt::Write;
 
 use super::names::covered;
 use super::{hex, Shown};
+use crate::flags;
 
 /// Code slots that are printed where not all are asked for.
 const FEW: usize = 16;
@@ -39,7 +40,7 @@ fn fields(out: &mut String, shown: &Shown) {
         ("identifier", shown.identifier().escape_ascii().to_string()),
         ("cdhash", hex(&shown.cdhash.hash)),
         ("version", format!("{:#x}", d.version)),
-        ("flags", format!("{:#x}", d.flags)),
+        ("flags", flags::text(d.flags)),
         ("platform", d.platform.to_string()),
         ("hash type", format!("{} (SHA-256), {} bytes a slot", d.hash_type, d.hash_size)),
         ("code limit", format!("{} bytes", d.code_limit)),
