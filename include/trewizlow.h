@@ -13,7 +13,8 @@
  *
  * Tests. Each has the number of its refusal, and a call makes its tests in the order that is
  * said below. 46, that the directory's flags hold a bit outside CS_ALLOWED_MACHO (0x33F02),
- * is made after 14 and before 15 wherever 14 is made: "1 to 18" has it among them.
+ * is made after 14 and before 15 wherever 14 is made: "1 to 18" and "1 to 31" have it among
+ * them.
  *
  * Buffers. Each is a pointer and a length in bytes. A pointer must not be null, even with
  * length 0: pass any other pointer then. Any bytes and any lengths may be lent. `marks` is

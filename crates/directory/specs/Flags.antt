@@ -1,7 +1,7 @@
--- Flags bit by bit (document 02, item 8): which a directory may hold, and what test 46 says of them.
+-- The flags that a directory may hold, and test 46 bit by bit (document 02, item 8).
 use Prim.Native.Nat.{ℕ, _/_, _%_, _^_}
 use mathlib.Core.Bool.{true, false}
-use mathlib.Core.List.{List, [], _∷_}
+use mathlib.Core.List.{List, [], _∷_, foldr}
 use mathlib.Core.Logic.{_↔_}
 use mathlib.Core.Path.{_≡_}
 use lib.Bits.{bitOr}
@@ -9,24 +9,7 @@ use Rattle.refusals.specs.Refusals.{Says}
 use Rattle.layout.specs.CodeDirectory.{allowedFlags, flags}
 use Rattle.directory.specs.Rows.{flagsOutside}
 
--- bit i of a number, from 0
-abbrev pub bit : ℕ → ℕ → ℕ
-bit x i = x / 2 ^ i % 2
-
--- every bit of x is one of m
-abbrev pub BitsWithin : ℕ → ℕ → Type 0
-BitsWithin x m = (i : ℕ) → bit x i ≡ 1 → bit m i ≡ 1
-
--- x holds a bit outside m
-abbrev pub BitOutside : ℕ → ℕ → Type 0
-BitOutside x m = (i : ℕ) × ((bit x i ≡ 1) × (bit m i ≡ 0))
-
--- test 46 refuses exactly a directory whose flags hold a bit outside the allowed ones, and passes exactly one whose bits are all of them
-pub record FlagsPlainly : Type 0 where
-  pub refuses : (d : List ℕ) → Says true (flagsOutside d) ↔ BitOutside (flags d) allowedFlags
-  pub passes : (d : List ℕ) → Says false (flagsOutside d) ↔ BitsWithin (flags d) allowedFlags
-
--- THE NINE FLAGS of CS_ALLOWED_MACHO, as source document 000 has them
+-- CS_ALLOWED_MACHO of source document 000: nine flags
 
 abbrev pub csAdhoc : ℕ
 csAdhoc = 0x00000002
@@ -55,13 +38,30 @@ csRuntime = 0x00010000
 abbrev pub csLinkerSigned : ℕ
 csLinkerSigned = 0x00020000
 
-abbrev pub union : List ℕ → ℕ
-union [] = 0
-union (x ∷ xs) = bitOr x (union xs)
+-- in the order of the source
+abbrev pub csAllowedMacho : List ℕ
+csAllowedMacho = csAdhoc ∷ csHard ∷ csKill ∷ csCheckExpiration ∷ csRestrict ∷ csEnforcement ∷ csRequireLv ∷ csRuntime ∷ csLinkerSigned ∷ []
 
-abbrev pub allowedMacho : List ℕ
-allowedMacho = csAdhoc ∷ csHard ∷ csKill ∷ csCheckExpiration ∷ csRestrict ∷ csEnforcement ∷ csRequireLv ∷ csRuntime ∷ csLinkerSigned ∷ []
-
--- joined they are the number that the row has
+-- joined they are the number that test 46 has
 abbrev pub FlagsNamed : Type 0
-FlagsNamed = union allowedMacho ≡ allowedFlags
+FlagsNamed = foldr bitOr 0 csAllowedMacho ≡ allowedFlags
+
+-- BIT BY BIT
+
+-- bit i of a number, from 0
+abbrev pub bit : ℕ → ℕ → ℕ
+bit x i = x / 2 ^ i % 2
+
+-- x holds a bit outside m
+abbrev pub BitOutside : ℕ → ℕ → Type 0
+BitOutside x m = (i : ℕ) × ((bit x i ≡ 1) × (bit m i ≡ 0))
+
+-- every bit that x holds, m holds
+abbrev pub BitsWithin : ℕ → ℕ → Type 0
+BitsWithin x m = (i : ℕ) → bit x i ≡ 1 → bit m i ≡ 1
+
+-- test 46 refuses exactly a directory whose flags hold a bit outside the allowed ones, and passes exactly one whose flags hold allowed bits
+-- alone
+pub record FlagsPlainly : Type 0 where
+  pub refuses : (d : List ℕ) → Says true (flagsOutside d) ↔ BitOutside (flags d) allowedFlags
+  pub passes : (d : List ℕ) → Says false (flagsOutside d) ↔ BitsWithin (flags d) allowedFlags

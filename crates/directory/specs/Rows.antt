@@ -1,5 +1,6 @@
--- Tests 10 to 18 of document 01, and the slots. Test 46 of document 02 stands after 14, and "tests 1 to 18" have it among them. `d` is
--- the directory's blob, `s` the lent signature, and `side` the length of the longest side file that is there, 0 where none is.
+-- Tests 10 to 18 of document 01, and the slots. Test 46 of document 02 stands after 14: a range with 14 and 15 in it, such as "tests 1 to
+-- 18", has 46 too. `d` is the directory's blob, `s` the lent signature, and `side` the length of the longest side file that is there, 0
+-- where none is.
 use Prim.Native.Nat.{ℕ, _+_, _-_, _*_}
 use mathlib.Core.List.{List, [], _∷_, _++_}
 use mathlib.Core.Bool.{cond}

@@ -105,16 +105,14 @@ fn fields_tested(d: &[u8]) -> Answer
         return answer(12, 0);
     }
     let head = CodeDirectory::read(d);
-    let hash_type = head.hash_type;
-    let hash_size = head.hash_size;
     let shift = head.page_shift;
     let flags = head.flags;
     let version = head.version;
     let limit64 = head.code_limit64;
-    if hash_type != CodeDirectory::SHA256 {
+    if head.hash_type != CodeDirectory::SHA256 {
         return answer(13, 0);
     }
-    if hash_size != CodeDirectory::SLOT {
+    if head.hash_size != CodeDirectory::SLOT {
         return answer(13, 0);
     }
     match shift {

@@ -106,6 +106,20 @@ fn flags_and_another_fault() {
         let name = format!("faults {one} and {other} at position 2");
         assert_eq!(answered(lines, &name), wanted, "{name}");
     }
+    let lines = &files.iter().find(|made| made.name == "checks").unwrap().lines;
+    for (fault, wanted) in [
+        ("hash size 20", "13 0"),
+        ("pageSize 1", "14 0"),
+        ("codeLimit64 not 0", "46 0"),
+        ("two code slots", "46 0"),
+        ("hashOffset 439", "46 0"),
+        ("identOffset 87", "46 0"),
+    ] {
+        for call in ["check", "recheck"] {
+            let name = format!("{call}, flags 0x80000002 and {fault}");
+            assert_eq!(answered(lines, &name), wanted, "{name}");
+        }
+    }
 }
 
 /// Cases whose answers document 01 gives.

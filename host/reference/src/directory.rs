@@ -1,4 +1,4 @@
-//! The code directory: tests 10 to 18, its fields, and where its slots lie.
+//! The code directory: tests 10 to 18 with 46 after 14, its fields, and where its slots lie.
 //!
 //! All numbers are big-endian and all offsets count from the directory's start.
 

@@ -1,4 +1,5 @@
-//! An independent checker of signed Mach-O images, written from documents 01 and 02 alone.
+//! An independent checker of signed Mach-O images, written from documents 01 and 02 and the
+//! source documents that they name.
 //!
 //! It shares no code with the proved library. Its answers are what the library's
 //! answers are compared with. Tests stand in the paper's order under their numbers,

@@ -60,7 +60,7 @@ answer-requires-4 c κs = search needs
 returns-4 : tie.Need-returns-4
 unfolding fieldRows
 returns-4 c =
-    let known = version-known _ _ (c .before .before .before .before .before .head-of .ensures .0) (c .before .before .before .before .if2 .left) in
+    let known = version-known _ _ (c .before .before .before .before .before .before .head-of .ensures .0) (c .before .before .before .before .before .if2 .left) in
     c .answer4 .ensures ∙ decides _ accepted _ _ (omega arith)
 
 answer-requires-5 : tie.Need-answer-requires-5
@@ -69,7 +69,7 @@ answer-requires-5 c κs = search needs
 returns-5 : tie.Need-returns-5
 unfolding fieldRows
 returns-5 c =
-    let known = version-known _ _ (c .before .before .before .before .before .before .head-of .ensures .0) (c .before .before .before .before .before .if2 .left) in
+    let known = version-known _ _ (c .before .before .before .before .before .before .before .before .head-of .ensures .0) (c .before .before .before .before .before .before .before .if2 .left) in
     c .answer5 .ensures ∙ decides _ accepted _ _ (omega arith)
 
 answer-requires-6 : tie.Need-answer-requires-6
@@ -78,7 +78,7 @@ answer-requires-6 c κs = search needs
 returns-6 : tie.Need-returns-6
 unfolding fieldRows
 returns-6 c =
-    let known = version-known _ _ (c .before .before .before .before .before .before .before .head-of .ensures .0) (c .before .before .before .before .before .before .if2 .left) in
+    let known = version-known _ _ (c .before .before .before .before .before .before .before .before .before .head-of .ensures .0) (c .before .before .before .before .before .before .before .before .if2 .left) in
     let k = none-of _ (c .before .match .rest .1) in
     c .answer6 .ensures ∙ decides _ accepted _ _ (omega arith)
 
@@ -88,8 +88,8 @@ answer-requires-7 c κs = search needs
 returns-7 : tie.Need-returns-7
 unfolding fieldRows
 returns-7 c =
-    let known = version-known _ _ (c .before .before .before .before .before .before .before .before .head-of .ensures .0) (c .before .before .before .before .before .before .before .if2 .left) in
-    let joined = same-join _ _ (c .before .before .before .before .before .read .ensures .flags-is) in
+    let known = version-known _ _ (c .before .before .before .before .before .before .before .before .before .before .head-of .ensures .0) (c .before .before .before .before .before .before .before .before .before .if2 .left) in
+    let joined = same-join _ _ (c .before .before .before .before .before .before .before .read .ensures .flags-is) in
     by-shift _ (λ e. c .answer7 .ensures ∙ decides _ accepted _ _ (omega arith)) (λ e. c .answer7 .ensures ∙ decides _ accepted _ _ (omega arith)) (λ e. c .answer7 .ensures ∙ decides _ accepted _ _ (omega arith)) (c .before .before .match .keys1)
 
 answer-requires-8 : tie.Need-answer-requires-8
@@ -98,8 +98,8 @@ answer-requires-8 c κs = search needs
 returns-8 : tie.Need-returns-8
 unfolding fieldRows
 returns-8 c =
-    let known = version-known _ _ (c .before .before .before .before .before .before .before .before .before .head-of .ensures .0) (c .before .before .before .before .before .before .before .before .if2 .left) in
-    let joined = same-join _ _ (c .before .before .before .before .before .before .read .ensures .flags-is) in
+    let known = version-known _ _ (c .before .before .before .before .before .before .before .before .before .before .before .head-of .ensures .0) (c .before .before .before .before .before .before .before .before .before .before .if2 .left) in
+    let joined = same-join _ _ (c .before .before .before .before .before .before .before .before .read .ensures .flags-is) in
     by-shift _ (λ e. c .answer8 .ensures ∙ passes _ accepted (omega arith)) (λ e. c .answer8 .ensures ∙ passes _ accepted (omega arith)) (λ e. c .answer8 .ensures ∙ passes _ accepted (omega arith)) (c .before .before .before .match .keys1)
 
 answer-requires-9 : tie.Need-answer-requires-9
@@ -108,8 +108,8 @@ answer-requires-9 c κs = search needs
 returns-9 : tie.Need-returns-9
 unfolding fieldRows
 returns-9 c =
-    let known = version-known _ _ (c .before .before .before .before .before .before .before .before .before .before .head-of .ensures .0) (c .before .before .before .before .before .before .before .before .before .if2 .left) in
-    let joined = same-join _ _ (c .before .before .before .before .before .before .before .read .ensures .flags-is) in
+    let known = version-known _ _ (c .before .before .before .before .before .before .before .before .before .before .before .before .head-of .ensures .0) (c .before .before .before .before .before .before .before .before .before .before .before .if2 .left) in
+    let joined = same-join _ _ (c .before .before .before .before .before .before .before .before .before .read .ensures .flags-is) in
     by-shift _ (λ e. c .answer9 .ensures ∙ decides _ accepted _ _ (omega arith)) (λ e. c .answer9 .ensures ∙ decides _ accepted _ _ (omega arith)) (λ e. c .answer9 .ensures ∙ decides _ accepted _ _ (omega arith)) (c .before .before .before .before .match .keys1)
 
 answer-requires-10 : tie.Need-answer-requires-10
@@ -118,8 +118,8 @@ answer-requires-10 c κs = search needs
 returns-10 : tie.Need-returns-10
 unfolding fieldRows
 returns-10 c =
-    let known = version-known _ _ (c .before .before .before .before .before .before .before .before .before .before .head-of .ensures .0) (c .before .before .before .before .before .before .before .before .before .if2 .left) in
-    let joined = same-join _ _ (c .before .before .before .before .before .before .before .read .ensures .flags-is) in
+    let known = version-known _ _ (c .before .before .before .before .before .before .before .before .before .before .before .before .head-of .ensures .0) (c .before .before .before .before .before .before .before .before .before .before .before .if2 .left) in
+    let joined = same-join _ _ (c .before .before .before .before .before .before .before .before .before .read .ensures .flags-is) in
     by-shift _ (λ e. c .answer10 .ensures ∙ passes _ accepted (omega arith)) (λ e. c .answer10 .ensures ∙ passes _ accepted (omega arith)) (λ e. c .answer10 .ensures ∙ passes _ accepted (omega arith)) (c .before .before .before .before .match .keys1)
 
 pub fields-tested-spec : {M : Type 1} → statement M

@@ -1,4 +1,4 @@
-//! Tests 10 to 18.
+//! Tests 10 to 18, with 46 after 14.
 
 use super::superblob::Index;
 use super::{be32, refuse, Tested};

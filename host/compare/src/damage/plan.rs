@@ -55,7 +55,7 @@ fn page_shift(plan: &mut InputsPlan, random: &mut Random) {
     plan.directory.page_shift = *random.pick(&[0, 1, 2, 11, 12, 13, 14, 15, 16, 128, 255]);
 }
 
-/// An allowed bit does not refuse here.
+/// Only a bit that is not allowed refuses.
 fn flags(plan: &mut InputsPlan, random: &mut Random) {
     plan.directory.flags ^= 1 << random.below(32);
 }

@@ -6,6 +6,8 @@ use std::ops::Deref;
 use std::os::unix::fs::MetadataExt;
 use std::path::{Path, PathBuf};
 
+use trewizlow::Directory;
+
 use crate::map::Map;
 use crate::progress::during;
 
@@ -66,10 +68,11 @@ impl Opened {
     }
 
     /// The pages of a recheck, with one byte more as in `read`: no pages have more bytes than
-    /// the code limit.
-    pub fn pages(self, code_limit: usize) -> Result<Lent, String> {
-        let bytes = self.mapped(code_limit + 1);
-        self.lent(bytes, code_limit + 1, code_limit)
+    /// the code limit. None where the signature is refused, since none is then looked at.
+    pub fn pages(self, directory: &Directory) -> Result<Lent, String> {
+        let wanted = if directory.answer.accepted() { directory.code_limit + 1 } else { 0 };
+        let bytes = self.mapped(wanted);
+        self.lent(bytes, wanted, directory.code_limit)
     }
 
     fn lent(self, bytes: io::Result<Bytes>, wanted: usize, most: usize) -> Result<Lent, String> {

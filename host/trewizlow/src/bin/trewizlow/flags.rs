@@ -59,8 +59,7 @@ pub fn text(flags: u32) -> String {
 /// The flags of the signature's directory, which may be refused; none where it is not found
 /// or ends before them.
 fn of(signature: &[u8]) -> Option<u32> {
-    let blob = find(signature, CODE_DIRECTORY);
-    let flags = signature.get(blob.start..)?.get(..blob.length)?.get(12..16)?;
+    let flags = find(signature, CODE_DIRECTORY).part(signature).get(12..16)?;
     Some(u32::from_be_bytes(flags.try_into().ok()?))
 }
 
@@ -71,8 +70,7 @@ pub fn not_allowed(signature: &[u8]) -> Vec<String> {
 
 /// For somebody who asks which flags refusal 46 means.
 pub fn note(signature: &[u8]) -> Option<String> {
-    let flags = of(signature)?;
-    let wrong = names(flags & !ALLOWED).join(", ");
+    let (flags, wrong) = (of(signature)?, not_allowed(signature).join(", "));
     (!wrong.is_empty()).then(|| {
         format!("the directory's flags, {flags:#x}, hold what is not allowed (46): {wrong}")
     })
@@ -80,6 +78,8 @@ pub fn note(signature: &[u8]) -> Option<String> {
 
 #[cfg(test)]
 mod tests {
+    use std::collections::BTreeSet;
+
     use super::*;
 
     #[test]
@@ -90,7 +90,7 @@ mod tests {
 
     #[test]
     fn every_bit_has_a_name_of_its_own() {
-        assert_eq!(names(u32::MAX).len(), 32);
+        assert_eq!(names(u32::MAX).into_iter().collect::<BTreeSet<_>>().len(), 32);
         assert_eq!(text(0x2), "0x2 (CS_ADHOC)");
         assert_eq!(text(0), "0x0 (none)");
         assert_eq!(text(0x8008_0040), "0x80080040 (0x40, 0x80000, CS_DATAVAULT_CONTROLLER)");

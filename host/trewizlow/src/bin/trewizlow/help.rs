@@ -28,14 +28,15 @@ pub const CHECK: &str = "\
 usage: trewizlow check --signature FILE --image FILE --cache FILE [OPTIONS]
 
 The whole check. Prints one line: the refusal number (0 is accepted), the place, and in
-words what failed where. All files are opened before any is read, the image last.
+words what failed where. Notes on a refusal, such as which flags are not allowed, go to
+standard error. All files are opened before any is read, the image last.
 
   --signature FILE          the embedded signature (a SuperBlob), cut out of its Mach-O
                             file; README.md has the recipe
   --image FILE              the image; bytes past the signature's code limit are not
                             read. A regular file is mapped: no byte of it is read where
-                            one of tests 1 to 30 refuses. Anything else, such as a pipe,
-                            is read up to the code limit before the check
+                            a test before 31 refuses. Anything else, such as a pipe, is
+                            read up to the code limit before the check
   --cache FILE              the trust cache
   --info-plist FILE         the Info.plist, where there is one
   --code-resources FILE     the CodeResources, where they are there
@@ -69,9 +70,9 @@ usage: trewizlow recheck --signature FILE --start N --length N --pages FILE --ma
                          [--json]
 
 Checks the pages that the range of N bytes from N on meets. Prints one line: the refusal
-number, the place, and in words what failed where. Number 0 says that no mark is 1: every
-page agrees as last examined. The trust cache is not looked at. All files are opened
-before any is read, the pages last.
+number, the place, and in words what failed where; notes on a refusal go to standard
+error. Number 0 says that no mark is 1: every page agrees as last examined. The trust
+cache is not looked at. All files are opened before any is read, the pages last.
 
   --signature FILE   the signature of the check that wrote the marks
   --start N          where the range starts in the image
@@ -113,7 +114,7 @@ cut out first, for which README.md has the recipe.
                 flags_not_allowed where there are any, and the directory with every
                 code slot; error where the status is 2
 
-exit status: 0 well formed (tests 1 to 18 and 46), 1 refused, 2 usage or input error
+exit status: 0 well formed, 1 refused, 2 usage or input error
 ";
 
 pub const EXPLAIN: &str = "\

@@ -58,7 +58,7 @@ fn run(arguments: &Arguments) -> Result<Outcome, String> {
     let pages = Opened::new(pages)?;
     let inputs = [signature.input(), pages.input()];
     let signature = signature.read(MOST_SIGNATURE_BYTES)?;
-    let pages = pages.pages(read(&signature.bytes).code_limit)?;
+    let pages = pages.pages(&read(&signature.bytes))?;
     let (held, new) = Held::with_new(path, &inputs)?;
     let old = held.read(MOST_PAGES)?;
     let mut marks = old.bytes.to_vec();

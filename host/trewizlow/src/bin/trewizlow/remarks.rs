@@ -1,4 +1,4 @@
-//! What is remarked of a signature; the library refuses every signature of which anything is.
+//! Notes on a signature; there is one only where the library refuses it.
 
 use crate::files::Lent;
 use crate::{flags, macho};

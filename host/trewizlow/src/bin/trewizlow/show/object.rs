@@ -4,7 +4,7 @@ use super::{hex, Shown};
 use crate::flags;
 use crate::json::{answer, array, object, string};
 
-const WELL_FORMED: &str = "the signature is well formed: tests 1 to 18 and 46 pass";
+const WELL_FORMED: &str = "the signature is well formed: all of its tests pass";
 
 pub fn text(shown: &Shown) -> String {
     let said = shown.answer();
