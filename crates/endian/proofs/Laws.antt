@@ -1,11 +1,15 @@
--- A byte past the end, and one more byte of a number: what the readers share.
-use Prim.Native.Nat.{ℕ, _+_, _-_, _*_, _^_, _<_, _≤_}
+-- A byte past the end, and one more byte of a number: what the readers share; and when a number is 0.
+use Prim.Native.Nat.{ℕ, zero, suc, _+_, _-_, _*_, _^_, _<_, _≤_}
+use mathlib.Core.Bool.{Bool, true, false}
 use mathlib.Core.List.{List}
+use mathlib.Core.Logic.{_↔_}
 use mathlib.Core.Path.{_≡_, refl, sym}
 use native.Mathlib.Nat.{pow-suc, pow-le-pow-right}
 use native.Mathlib.Numerals.{add-one}
 use native.Mathlib.Omega.{arith}
+use lib.Dec.{ltb}
 use lib.ListN.{length, getD, List·getD-eq-default}
+use borrow.Author.Tests.{ltb-true, ltb-false}
 use Rattle.endian.specs.Numbers.{big, little}
 
 -- a byte past the end counts as 0
@@ -44,3 +48,30 @@ little-more s at w i n b h p q =
     let e : at + (w - (i + 1)) ≡ at + (w - 1 - i) = omega arith in
     let f : at + (w - 1 - i) + 1 ≡ at + (w - i) = omega arith in
     rw (e, add-one i, f) (omega arith)
+
+-- A NUMBER THAT IS 0
+
+module _ (s : List ℕ) (at : ℕ) where
+  -- the n bytes from `at` are all 0
+  abbrev Zeros : ℕ → Type 0
+  Zeros n = (i : ℕ) → i < n → getD s (at + i) 0 ≡ 0
+
+  -- the byte at n, and those before it
+  one-more : (n : ℕ) → Zeros n → getD s (at + n) 0 ≡ 0 → Zeros (suc n)
+  one-more n f e i h = by-test (ltb i n) refl
+    where
+      by-test : (b : Bool) → ltb i n ≡ b → getD s (at + i) 0 ≡ 0
+      by-test true t = f i (ltb-true i n t)
+      by-test false t =
+          let l : n ≤ i = ltb-false i n t in
+          let q : i ≡ n = omega arith in
+          rw q e
+
+  -- big-endian: exactly where its bytes are
+  pub big-zero : (n : ℕ) → (big n s at ≡ 0) ↔ Zeros n
+  unfolding big
+  big-zero zero = ((λ e i h. absurd (omega arith)), λ f. refl)
+  big-zero (suc n) = (
+    (λ e. one-more n (big-zero n .0 (omega arith)) (omega arith)),
+    λ f. omega (arith, big-zero n .1 (λ i h. f i (omega arith)), f n (omega arith)),
+  )

@@ -74,6 +74,9 @@ platform d = getD d 38 0
 unfoldable pub pageSize : List ℕ → ℕ
 pageSize d = getD d 39 0
 
+unfoldable pub scatterOffset : List ℕ → ℕ
+scatterOffset d = big 4 d 44
+
 unfoldable pub codeLimit64 : List ℕ → ℕ
 codeLimit64 d = big 8 d 56
 
@@ -90,6 +93,7 @@ pub record DirectoryRead (d : List ℕ) (h : CodeDirectory) : Type 0 where
   pub hashType-is : h .«hash_type» ≡ hashType d
   pub platform-is : h .platform ≡ platform d
   pub pageSize-is : h .«page_shift» ≡ pageSize d
+  pub scatterOffset-is : h .«scatter_offset» ≡ scatterOffset d
   pub codeLimit64-is : h .«code_limit64» ≡ codeLimit64 d
   pub version-below : h .version < 4294967296
   pub flags-below : h .flags < 4294967296
@@ -102,3 +106,4 @@ pub record DirectoryRead (d : List ℕ) (h : CodeDirectory) : Type 0 where
   pub hashType-below : h .«hash_type» < 256
   pub platform-below : h .platform < 256
   pub pageSize-below : h .«page_shift» < 256
+  pub scatterOffset-below : h .«scatter_offset» < 4294967296

@@ -16,7 +16,8 @@ pub struct CodeDirectory {
     pub platform: usize,
     // The page size is 2 to this, or the whole code limit where this is 0 (`pageSize` in Apple's header).
     pub page_shift: usize,
-    // A field from version 0x20300 on. In an older directory these bytes are something else.
+    // Fields from version 0x20100 and from 0x20300 on. In an older directory these bytes are something else.
+    pub scatter_offset: usize,
     pub code_limit64: u64,
 }
 
@@ -72,6 +73,7 @@ impl CodeDirectory {
             hash_type: endian::byte(d, 0, 37),
             platform: endian::byte(d, 0, 38),
             page_shift: endian::byte(d, 0, 39),
+            scatter_offset: endian::be32(d, 0, 44),
             code_limit64: endian::be64(d, 0, 56),
         }
     }

@@ -1,5 +1,5 @@
 -- Each field is what `be32`, `be64` or `byte` reads at its offset.
-use Rattle.layout.specs.CodeDirectory.{version, flags, hashOffset, identOffset, nSpecialSlots, nCodeSlots, codeLimit, hashSize, hashType, platform, pageSize, codeLimit64}
+use Rattle.layout.specs.CodeDirectory.{version, flags, hashOffset, identOffset, nSpecialSlots, nCodeSlots, codeLimit, hashSize, hashType, platform, pageSize, scatterOffset, codeLimit64}
 use borrow.Author.Needs.{needs}
 use Rattle.layout.proofs.directory.CodeDirectory.read.Statement.{statement}
 use Rattle.layout.proofs.directory.CodeDirectory.read.Tie as tie
@@ -37,11 +37,14 @@ byte-requires-3 c κs = search needs
 byte-requires-4 : tie.Need-byte-requires-4
 byte-requires-4 c κs = search needs
 
+be32-requires-8 : tie.Need-be32-requires-8
+be32-requires-8 c κs = search needs
+
 be64-requires : tie.Need-be64-requires
 be64-requires c κs = search needs
 
 returns : tie.Need-returns
-unfolding version flags hashOffset identOffset nSpecialSlots nCodeSlots codeLimit hashSize hashType platform pageSize codeLimit64
+unfolding version flags hashOffset identOffset nSpecialSlots nCodeSlots codeLimit hashSize hashType platform pageSize scatterOffset codeLimit64
 returns c = search needs
 
 pub read-spec : {M : Type 1} → statement M
@@ -59,5 +62,6 @@ read-spec =
     byte-requires-2
     byte-requires-3
     byte-requires-4
+    be32-requires-8
     be64-requires
     returns)
