@@ -13,13 +13,13 @@ use Rattle.admission.specs.Recheck.{Call, Rechecked}
 -- what a whole check refuses with
 abbrev pub checkNumbers : List ℕ
 checkNumbers =
-    1 ∷ 2 ∷ 3 ∷ 4 ∷ 5 ∷ 6 ∷ 7 ∷ 8 ∷ 9 ∷ 10 ∷ 11 ∷ 12 ∷ 13 ∷ 14 ∷ 46 ∷ 15 ∷ 16 ∷ 17 ∷ 18 ∷ 19 ∷ 20
+    1 ∷ 2 ∷ 3 ∷ 4 ∷ 5 ∷ 6 ∷ 7 ∷ 8 ∷ 9 ∷ 10 ∷ 11 ∷ 12 ∷ 13 ∷ 14 ∷ 46 ∷ 15 ∷ 35 ∷ 16 ∷ 17 ∷ 18 ∷ 19 ∷ 20
     ∷ 21 ∷ 22 ∷ 23 ∷ 24 ∷ 25 ∷ 26 ∷ 27 ∷ 28 ∷ 29 ∷ 30 ∷ 31 ∷ []
 
 -- what a recheck refuses with
 abbrev pub recheckNumbers : List ℕ
 recheckNumbers =
-    1 ∷ 2 ∷ 3 ∷ 4 ∷ 5 ∷ 6 ∷ 7 ∷ 8 ∷ 9 ∷ 10 ∷ 11 ∷ 12 ∷ 13 ∷ 14 ∷ 46 ∷ 15 ∷ 16 ∷ 17 ∷ 18 ∷ 20
+    1 ∷ 2 ∷ 3 ∷ 4 ∷ 5 ∷ 6 ∷ 7 ∷ 8 ∷ 9 ∷ 10 ∷ 11 ∷ 12 ∷ 13 ∷ 14 ∷ 46 ∷ 15 ∷ 35 ∷ 16 ∷ 17 ∷ 18 ∷ 20
     ∷ 32 ∷ 33 ∷ 34 ∷ 31 ∷ []
 
 pub record Demand1 : Type 0 where

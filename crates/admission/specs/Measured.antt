@@ -5,7 +5,8 @@ use mathlib.Core.List.{List, [], _∷_}
 use mathlib.Core.Path.{_≡_}
 use Rattle.refusals.specs.Refusals.{accepted, first}
 use Rattle.pages.specs.Pages.{pageBytes, pageCount, wanted, rangeRows}
-use Rattle.directory.specs.Rows.{headSize, blobRows}
+use Rattle.directory.specs.Head.{headSize}
+use Rattle.directory.specs.Rows.{blobRows}
 
 -- a number that is computed, and the one that is stated
 infix 90 _gives_

@@ -12,12 +12,14 @@ use Rattle.refusals.specs.Refusals.{Passes}
 use Rattle.refusals.proofs.Conditions.{said}
 use Rattle.refusals.proofs.Positions.{lowest-before, lowest-fails, lowest-most, some-fails}
 use Rattle.refusals.proofs.Joined.{passes-append, append-passes}
-use Rattle.layout.specs.CodeDirectory.{identOffset, pageSize}
+use Rattle.layout.specs.CodeDirectory.{identOffset, pageSize, scatterOffset, codeLimit64}
 use Rattle.superblob.specs.Rows.{rows}
 use Rattle.superblob.proofs.Formed.{formed-exactly}
+use Rattle.directory.specs.Head.{scatterVersion, limit64Version}
 use Rattle.directory.specs.Rows.{directory, zeroAt, identLength, fieldRows, slotRows, blobRows, directoryRows, signatureRows}
 use Rattle.directory.specs.Formed.{DirectoryFormed, DirectoryExactly, SignatureExactly}
 use Rattle.directory.proofs.Flags.{flags-plainly}
+use Rattle.directory.proofs.Since.{since-plainly}
 use Rattle.directory.proofs.Slots.{slots-inside}
 
 -- TEST 14
@@ -76,7 +78,7 @@ identifier d f =
 formed : (d : List ℕ) → Passes (blobRows d) → DirectoryFormed d
 unfolding blobRows fieldRows slotRows
 formed d p =
-    let q = p .1 .1 .1 .1 .1 .1 in
+    let q = p .1 .1 .1 .1 .1 .1 .1 in
     let l : identLength d < length d - identOffset d = omega (arith, ident-most d, q .1 .1 .0 .1) in
     record {
       version-known = p .0 (omega arith);
@@ -86,7 +88,8 @@ formed d p =
       hash-size = omega arith;
       page-size = one-of (pageSize d) (p .1 .1 .1 .0);
       flags-allowed = flags-plainly .passes d .0 (p .1 .1 .1 .1 .0);
-      no-limit64 = p .1 .1 .1 .1 .1 .0;
+      no-limit64 = since-plainly .passes limit64Version codeLimit64 d .0 (p .1 .1 .1 .1 .1 .0);
+      no-scatter = since-plainly .passes scatterVersion scatterOffset d .0 (p .1 .1 .1 .1 .1 .1 .0);
       slot-a-page = omega arith;
       few-pages = omega arith;
       few-special-slots = omega arith;
@@ -108,7 +111,8 @@ formed-passes d f =
     then (f .hash-type, f .hash-size)
     then page-size-passes (pageSize d) (f .page-size)
     then flags-plainly .passes d .1 (f .flags-allowed)
-    then f .no-limit64
+    then since-plainly .passes limit64Version codeLimit64 d .1 (f .no-limit64)
+    then since-plainly .passes scatterVersion scatterOffset d .1 (f .no-scatter)
     then (f .slot-a-page, (f .few-pages, f .few-special-slots))
     then slots-inside d .1 (f .slots-inside)
     then (f .ident-after-head, ident-passes d (f .ident-ends .0) (f .ident-ends .1 .0) (f .ident-ends .1 .1 .0) (f .ident-ends .1 .1 .1))

@@ -1,6 +1,7 @@
 -- Laws that belong to no one function.
 pub mod Numbers
 pub mod Versions
+pub mod Since
 pub mod Slots
 pub mod Flags
 pub mod Formed

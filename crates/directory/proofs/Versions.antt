@@ -8,9 +8,10 @@ use lib.Dec.{leb}
 use borrow.Author.Tests.{leb-true, leb-false}
 use Rattle.refusals.proofs.Ranges.{hits, misses}
 use Rattle.layout.specs.CodeDirectory.{version}
-use Rattle.directory.specs.Rows.{firstVersion, lastVersion, headSizes, headSize, headOf}
+use Rattle.directory.specs.Head.{firstVersion, lastVersion, headSizes, headSize, headOf}
 
-split : {G : Type 0} (v b : ℕ) → (v ≤ b → G) → (b < v → G) → G
+-- by the order of two numbers
+pub split : {G : Type 0} (v b : ℕ) → (v ≤ b → G) → (b < v → G) → G
 split {G} v b f g = by-test (leb v b) refl
   where
     by-test : (t : Bool) → leb v b ≡ t → G

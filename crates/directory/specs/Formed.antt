@@ -6,12 +6,13 @@ use mathlib.Core.Path.{_≡_}
 use lib.ListN.{length, getD}
 use Rattle.refusals.specs.Refusals.{Passes}
 use Rattle.layout.specs.SuperBlob.{count}
-use Rattle.layout.specs.CodeDirectory.{directoryType, sha256Type, allowedFlags, slotWidth, versionEnd, version, flags, hashOffset, identOffset, nSpecialSlots, nCodeSlots, hashSize, hashType, pageSize, codeLimit64}
+use Rattle.layout.specs.CodeDirectory.{directoryType, sha256Type, allowedFlags, slotWidth, versionEnd, version, flags, hashOffset, identOffset, nSpecialSlots, nCodeSlots, hashSize, hashType, pageSize, scatterOffset, codeLimit64}
 use Rattle.superblob.specs.Rows.{mostSide, position}
 use Rattle.superblob.specs.Formed.{Formed}
+use Rattle.directory.specs.Head.{firstVersion, lastVersion, scatterVersion, limit64Version, headOf}
 use Rattle.directory.specs.Pages.{pages}
 use Rattle.directory.specs.Flags.{BitsWithin}
-use Rattle.directory.specs.Rows.{mostPages, mostSpecialSlots, directory, firstVersion, lastVersion, headOf, limit64Version, blobRows, signatureRows}
+use Rattle.directory.specs.Rows.{mostPages, mostSpecialSlots, directory, blobRows, signatureRows}
 
 -- every slot lies between the head's end and the directory's
 pub record SlotsInside (d : List ℕ) : Type 0 where
@@ -29,6 +30,7 @@ pub record DirectoryFormed (d : List ℕ) : Type 0 where
   pub page-size : (pageSize d ≡ 0) ⊎ ((pageSize d ≡ 12) ⊎ (pageSize d ≡ 14))
   pub flags-allowed : BitsWithin (flags d) allowedFlags
   pub no-limit64 : limit64Version ≤ version d → codeLimit64 d ≡ 0
+  pub no-scatter : scatterVersion ≤ version d → scatterOffset d ≡ 0
   pub slot-a-page : nCodeSlots d ≡ pages d
   pub few-pages : nCodeSlots d ≤ mostPages
   pub few-special-slots : nSpecialSlots d ≤ mostSpecialSlots

@@ -1,3 +1,4 @@
+pub mod Head
 pub mod Pages
 pub mod Rows
 pub mod Flags

@@ -1,19 +1,19 @@
--- Tests 10 to 18 of document 01, and the slots. Test 46 of document 02 stands after 14: a range with 14 and 15 in it, such as "tests 1 to
--- 18", has 46 too. `d` is the directory's blob, `s` the lent signature, and `side` the length of the longest side file that is there, 0
--- where none is.
+-- Tests 10 to 18 of document 01, and the slots. Of document 02's tests 46 stands after 14 and 35 after 15: a range of tests goes by this
+-- table, so that "tests 1 to 18" has both. `d` is the directory's blob, `s` the lent signature, and `side` the length of the longest side
+-- file that is there, 0 where none is.
 use Prim.Native.Nat.{ℕ, _+_, _-_, _*_}
 use mathlib.Core.List.{List, [], _∷_, _++_}
 use mathlib.Core.Bool.{cond}
 use lib.Bits.{bitOr}
 use lib.ListN.{length, getD, take, drop}
-use Rattle.refusals.specs.Ranges.{Range, range, lookup}
 use Rattle.refusals.specs.Refusals.{_<?_, _≤?_, _≡?_, _≢?_, _and_, _or_, Cond, holds, lowest, Row, row}
 use Rattle.digest.specs.Hash.{digest}
 use Rattle.digest.specs.Sha256.{sha256}
 use Rattle.layout.specs.SuperBlob.{count}
-use Rattle.layout.specs.CodeDirectory.{directoryType, sha256Type, allowedFlags, slotWidth, versionEnd, version, flags, hashOffset, identOffset, nSpecialSlots, nCodeSlots, hashSize, hashType, pageSize, codeLimit64}
+use Rattle.layout.specs.CodeDirectory.{directoryType, sha256Type, allowedFlags, slotWidth, versionEnd, version, flags, hashOffset, identOffset, nSpecialSlots, nCodeSlots, hashSize, hashType, pageSize, scatterOffset, codeLimit64}
 use Rattle.layout.specs.TrustCache.{cdhashLength}
 use Rattle.superblob.specs.Rows.{rows, position, blobOf}
+use Rattle.directory.specs.Head.{firstVersion, lastVersion, scatterVersion, limit64Version, headOf, since}
 use Rattle.directory.specs.Pages.{pages}
 
 -- LIMITS
@@ -32,38 +32,6 @@ directory s = blobOf s directoryType
 -- its hash covers the whole blob, head included, and is cut to 20 bytes
 unfoldable pub cdhash : List ℕ → List ℕ
 cdhash d = take cdhashLength (digest sha256 d)
-
--- THE HEAD
-
--- the versions that are known
-abbrev pub firstVersion : ℕ
-firstVersion = 0x20001
-
-abbrev pub lastVersion : ℕ
-lastVersion = 0x20600
-
--- the first version that has codeLimit64
-abbrev pub limit64Version : ℕ
-limit64Version = 0x20300
-
--- the size of the head, by the version
-unfoldable pub headSizes : List Range
-headSizes =
-    range firstVersion 0x200FF 44
-    ∷ range 0x20100 0x201FF 48
-    ∷ range 0x20200 0x202FF 52
-    ∷ range limit64Version 0x203FF 64
-    ∷ range 0x20400 0x204FF 88
-    ∷ range 0x20500 0x205FF 96
-    ∷ range lastVersion lastVersion 108
-    ∷ []
-
--- .. 0 where the version is refused
-unfoldable pub headSize : ℕ → ℕ
-headSize v = lookup headSizes 0 v
-
-unfoldable pub headOf : List ℕ → ℕ
-headOf d = headSize (version d)
 
 -- THE FLAGS: they hold a bit outside the allowed ones (specs/Flags.antt says it bit by bit)
 abbrev pub flagsOutside : List ℕ → Cond
@@ -113,7 +81,8 @@ fieldRows d =
     ∷ row 13 (hashType d ≢? sha256Type or hashSize d ≢? slotWidth) 0
     ∷ row 14 (pageSize d ≢? 0 and pageSize d ≢? 12 and pageSize d ≢? 14) 0
     ∷ row 46 (flagsOutside d) 0
-    ∷ row 15 (limit64Version ≤? version d and codeLimit64 d ≢? 0) 0
+    ∷ row 15 (since limit64Version codeLimit64 d ≢? 0) 0
+    ∷ row 35 (since scatterVersion scatterOffset d ≢? 0) 0
     ∷ []
 
 unfoldable pub slotRows : List ℕ → List Row

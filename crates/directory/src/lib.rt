@@ -1,20 +1,25 @@
-// The CodeDirectory of a signature: tests 10 to 18 of document 01 with 46 of document 02 after 14, its fields and its slots.
+// The CodeDirectory of a signature: tests 10 to 18 of document 01 with 46 and 35 of document 02 after 14 and 15, its fields and its
+// slots.
 //
 // The directory is the blob of type 0. It is refused where its version has no head size, where its head, a slot or the
-// identifier does not lie inside it, where its hash is not SHA-256, its page size not known, a flag not allowed or its code limit
-// of 64 bits, and where its slots are not those that its code limit asks for. The table of tests is specs/Rows.antt, its pages
-// specs/Pages.antt.
+// identifier does not lie inside it, where its hash is not SHA-256, its page size not known, a flag not allowed, its code limit of
+// 64 bits or its pages scattered, and where its slots are not those that its code limit asks for. The table of tests is
+// specs/Rows.antt, the head by its version specs/Head.antt, its pages specs/Pages.antt.
 ghost use mathlib.Core.Path.{_≡_};
 ghost use Prim.Native.Nat.{_-_, _<_};
 ghost use lib.ListN.{length};
 ghost use Rattle.refusals.specs.Refusals.{holds, first, accepted};
-ghost use Rattle.layout.specs.CodeDirectory.{identOffset, codeLimit};
+ghost use Rattle.layout.specs.CodeDirectory.{identOffset, codeLimit, scatterOffset, codeLimit64};
+ghost use Rattle.directory.specs.Head.{scatterVersion, limit64Version, headSize, headOf, since};
 ghost use Rattle.directory.specs.Pages.{P, pages};
-ghost use Rattle.directory.specs.Rows.{headSize, headOf, specialOutside, codeOutside, identLength, fieldRows, slotRows, blobRows, signatureRows, specialSlot, codeSlots, cdhash};
+ghost use Rattle.directory.specs.Rows.{specialOutside, codeOutside, identLength, fieldRows, slotRows, blobRows, signatureRows, specialSlot, codeSlots, cdhash};
 use layout::directory::CodeDirectory;
 use layout::parts::part;
 use refusals::Answer;
 use refusals::answers::answer;
+
+// The first version that has scatterOffset.
+const SCATTER_VERSION: usize = 0x20100;
 
 // The first version that has codeLimit64.
 const LIMIT64_VERSION: usize = 0x20300;
@@ -90,7 +95,7 @@ fn blob_tested(d: &[u8]) -> Answer
     slots_tested(d)
 }
 
-// Tests 11 to 15: the head, the hash, the page size, the flags (46) and the code limit.
+// Tests 11 to 15 and 35: the head, the hash, the page size, the flags (46), the code limit and scatter.
 fn fields_tested(d: &[u8]) -> Answer
     ensures { λ r. ⌜ r ≡ first (fieldRows (now (d .entry))) accepted ⌝ }
 {
@@ -107,8 +112,8 @@ fn fields_tested(d: &[u8]) -> Answer
     let head = CodeDirectory::read(d);
     let shift = head.page_shift;
     let flags = head.flags;
-    let version = head.version;
-    let limit64 = head.code_limit64;
+    let limit64 = limit64_of(d);
+    let scatter = scatter_of(d);
     if head.hash_type != CodeDirectory::SHA256 {
         return answer(13, 0);
     }
@@ -122,11 +127,11 @@ fn fields_tested(d: &[u8]) -> Answer
     if flags | CodeDirectory::ALLOWED_FLAGS != CodeDirectory::ALLOWED_FLAGS {
         return answer(46, 0);
     }
-    if version < LIMIT64_VERSION {
-        return answer(0, 0);
-    }
     if limit64 != 0 {
         return answer(15, 0);
+    }
+    if scatter != 0 {
+        return answer(35, 0);
     }
     answer(0, 0)
 }
@@ -219,6 +224,28 @@ fn head_of(d: &[u8]) -> usize
     ensures { λ r. ⌜ (r ≡ headOf (now (d .entry))) × (r < 109) ⌝ }
 {
     head_size(CodeDirectory::read(d).version)
+}
+
+// codeLimit64; 0 in a directory of a version that has none.
+fn limit64_of(d: &[u8]) -> u64
+    ensures { λ r. ⌜ r ≡ since limit64Version codeLimit64 (now (d .entry)) ⌝ }
+{
+    let head = CodeDirectory::read(d);
+    if head.version < LIMIT64_VERSION {
+        return 0;
+    }
+    head.code_limit64
+}
+
+// scatterOffset; 0 in a directory of a version that has none.
+fn scatter_of(d: &[u8]) -> usize
+    ensures { λ r. ⌜ r ≡ since scatterVersion scatterOffset (now (d .entry)) ⌝ }
+{
+    let head = CodeDirectory::read(d);
+    if head.version < SCATTER_VERSION {
+        return 0;
+    }
+    head.scatter_offset
 }
 
 // Bytes of a page: 2 to the shift, or the whole code limit where the shift is 0; 0 for a shift that test 14 refuses.

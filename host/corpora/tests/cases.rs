@@ -81,18 +81,58 @@ fn bits_alone() {
     }
 }
 
-/// A lookup does not make test 46: it finds the directory where the other readers refuse.
+/// Each byte at 44 to 47 is 35 from version 0x20100 on and free before, in each call that makes
+/// the test; and so is none of its neighbours.
 #[test]
-fn lookup_in_a_signature_with_all_flags() {
+fn bytes_of_scatter_offset() {
     let files = subjects::make();
-    let lines = &files.iter().find(|made| made.name == "signatures").unwrap().lines;
-    let line = lines.iter().find(|line| line.starts_with("version 0x20001, flags 0xffffffff: "));
-    assert!(line.unwrap().contains(": 46 0 | - | 46 0 - | 0 0 0:20+"));
+    let lines = |name: &str| &files.iter().find(|made| made.name == name).unwrap().lines;
+    let versions = [0x20001, 0x200FF, 0x20100, 0x201FF, 0x20200, 0x202FF, 0x20300, 0x20400];
+    for version in versions.into_iter().chain([0x20500, 0x20600]) {
+        let wanted = if version < 0x20100 { "0 0" } else { "35 0" };
+        for number in [0, 1, 0x100, 0x10000, 0x1000000, 0xFFFFFFFFu32] {
+            for call in ["check", "recheck"] {
+                let name = format!("{call}, version {version:#x}, {number:#x} at byte 44");
+                let wanted = if number == 0 { "0 0" } else { wanted };
+                assert_eq!(answered(lines("checks"), &name), wanted, "{name}");
+            }
+        }
+        for at in 43..49 {
+            let name = format!("version {version:#x}, byte {at} set");
+            let wanted = if (44..48).contains(&at) { "35 0" } else { "0 0" };
+            if version >= 0x20100 {
+                assert_eq!(answered(lines("signatures"), &name), wanted, "{name}");
+            }
+        }
+    }
+    for version in [0x20001, 0x200FF] {
+        for what in ["identifier", "a code slot"] {
+            for number in [0, 1, 0x100, 0x10000, 0x1000000] {
+                let name = format!("version {version:#x}, {what} at byte 44, {number:#x} there");
+                assert_eq!(answered(lines("signatures"), &name), "0 0", "{name}");
+            }
+        }
+    }
 }
 
-/// 46 against its neighbours in the table.
+/// A lookup makes neither 46 nor 35: it finds the directory where the other readers refuse.
 #[test]
-fn flags_and_another_fault() {
+fn lookup_in_a_directory_that_is_refused() {
+    let files = subjects::make();
+    let lines = &files.iter().find(|made| made.name == "signatures").unwrap().lines;
+    for (name, number) in [
+        ("version 0x20001, flags 0xffffffff", 46),
+        ("version 0x20100, scatterOffset 0xffffffff", 35),
+    ] {
+        let line = lines.iter().find(|line| line.starts_with(&format!("{name}: ")));
+        let wanted = format!(": {number} 0 | - | {number} 0 - | 0 0 0:20+");
+        assert!(line.unwrap().contains(&wanted), "{name}");
+    }
+}
+
+/// 46 and 35 against their neighbours in the table.
+#[test]
+fn another_fault_beside() {
     let files = subjects::make();
     let lines = &files.iter().find(|made| made.name == "signatures").unwrap().lines;
     for (one, other, wanted) in [
@@ -102,21 +142,34 @@ fn flags_and_another_fault() {
         (46, 16, "46 0"),
         (46, 17, "46 0"),
         (46, 18, "46 0"),
+        (13, 35, "13 0"),
+        (14, 35, "14 0"),
+        (46, 35, "46 0"),
+        (15, 35, "15 0"),
+        (35, 16, "35 0"),
+        (35, 17, "35 0"),
+        (35, 18, "35 0"),
     ] {
         let name = format!("faults {one} and {other} at position 2");
         assert_eq!(answered(lines, &name), wanted, "{name}");
     }
     let lines = &files.iter().find(|made| made.name == "checks").unwrap().lines;
-    for (fault, wanted) in [
-        ("hash size 20", "13 0"),
-        ("pageSize 1", "14 0"),
-        ("codeLimit64 not 0", "46 0"),
-        ("two code slots", "46 0"),
-        ("hashOffset 439", "46 0"),
-        ("identOffset 87", "46 0"),
+    for (one, other, wanted) in [
+        ("flags 0x80000002", "hash size 20", "13 0"),
+        ("flags 0x80000002", "pageSize 1", "14 0"),
+        ("flags 0x80000002", "codeLimit64 not 0", "46 0"),
+        ("flags 0x80000002", "scatterOffset 1", "46 0"),
+        ("flags 0x80000002", "two code slots", "46 0"),
+        ("flags 0x80000002", "hashOffset 439", "46 0"),
+        ("flags 0x80000002", "identOffset 87", "46 0"),
+        ("scatterOffset 1", "pageSize 1", "14 0"),
+        ("scatterOffset 1", "codeLimit64 not 0", "15 0"),
+        ("scatterOffset 1", "two code slots", "35 0"),
+        ("scatterOffset 1", "hashOffset 439", "35 0"),
+        ("scatterOffset 1", "identOffset 87", "35 0"),
     ] {
         for call in ["check", "recheck"] {
-            let name = format!("{call}, flags 0x80000002 and {fault}");
+            let name = format!("{call}, {one} and {other}");
             assert_eq!(answered(lines, &name), wanted, "{name}");
         }
     }
@@ -168,6 +221,6 @@ fn number_of_cases() {
     let counts: Vec<(&str, usize)> =
         made.iter().map(|made| (made.name, made.lines.len())).collect();
     let wanted =
-        [("signatures", 2669), ("readers", 117), ("slots", 682), ("caches", 435), ("checks", 1255)];
+        [("signatures", 2850), ("readers", 122), ("slots", 682), ("caches", 435), ("checks", 1416)];
     assert_eq!(counts, wanted);
 }

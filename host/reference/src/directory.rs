@@ -1,4 +1,5 @@
-//! The code directory: tests 10 to 18 with 46 after 14, its fields, and where its slots lie.
+//! The code directory: tests 10 to 18 with 46 after 14 and 35 after 15, its fields, and where its
+//! slots lie.
 //!
 //! All numbers are big-endian and all offsets count from the directory's start.
 
@@ -15,7 +16,8 @@ pub const MOST_CODE_SLOTS: u64 = 65_536;
 pub const MOST_SPECIAL_SLOTS: u64 = 11;
 /// Bytes of the directory's hash that a trust cache lists.
 pub const CS_CDHASH_LEN: usize = 20;
-/// The first version that has codeLimit64.
+/// The first versions that have scatterOffset and codeLimit64.
+const WITH_SCATTER: u64 = 0x20100;
 const WITH_CODE_LIMIT_64: u64 = 0x20300;
 const CS_ADHOC: u64 = 0x2;
 const CS_HARD: u64 = 0x100;
@@ -96,6 +98,13 @@ impl<'a> Directory<'a> {
     /// The pageSize field: the power of two, or 0 for one page.
     pub fn page_shift(&self) -> u64 {
         u8_at(self.bytes, 39)
+    }
+    /// A field that is there and not 0 puts the code slots out of the file's order.
+    fn scattered(&self) -> bool {
+        self.version() >= WITH_SCATTER && be32(self.bytes, 44) != 0
+    }
+    fn has_code_limit_64(&self) -> bool {
+        self.version() >= WITH_CODE_LIMIT_64 && be64(self.bytes, 56) != 0
     }
     /// P.
     pub fn page_size(&self) -> u64 {
@@ -179,13 +188,14 @@ pub fn read(signature: &[u8], side_file_too_long: bool) -> Result<Directory<'_>,
         return refuse(10);
     };
     let directory = Directory { bytes: part(signature, start, length), start };
-    test(&directory)?;
+    let head = test_fields(&directory)?;
+    test_slots(&directory, head)?;
     Ok(directory)
 }
 
-/// Tests 11 to 18. From 12 bytes on the version is tested first, so a directory of
-/// 12 bytes with a version outside the ranges is 11.
-fn test(directory: &Directory) -> Result<(), Answer> {
+/// Tests 11 to 35; the head's size. From 12 bytes on the version is tested first, so a
+/// directory of 12 bytes with a version outside the ranges is 11.
+fn test_fields(directory: &Directory) -> Result<u64, Answer> {
     if directory.length() < VERSION_END {
         return refuse(12);
     }
@@ -204,9 +214,17 @@ fn test(directory: &Directory) -> Result<(), Answer> {
     if directory.flags() & !CS_ALLOWED_MACHO != 0 {
         return refuse(46);
     }
-    if directory.version() >= WITH_CODE_LIMIT_64 && be64(directory.bytes, 56) != 0 {
+    if directory.has_code_limit_64() {
         return refuse(15);
     }
+    if directory.scattered() {
+        return refuse(35);
+    }
+    Ok(head)
+}
+
+/// Tests 16 to 18.
+fn test_slots(directory: &Directory, head: u64) -> Result<(), Answer> {
     if directory.counts_wrong() {
         return refuse(16);
     }

@@ -57,6 +57,8 @@ pub struct DirectoryPlan {
     pub platform: u8,
     pub page_shift: u8,
     /// Written where the head has the field.
+    /// Written where the version has it, as is code_limit64.
+    pub scatter_offset: u32,
     pub code_limit64: u64,
     /// Without its zero byte.
     pub identifier: Vec<u8>,
@@ -81,6 +83,7 @@ impl DirectoryPlan {
             hash_type: 2,
             platform: 0,
             page_shift: 12,
+            scatter_offset: 0,
             code_limit64: 0,
             identifier: b"id".to_vec(),
             special: Vec::new(),
@@ -148,6 +151,9 @@ impl DirectoryPlan {
             self.platform,
             self.page_shift,
         ]);
+        if self.head() >= 48 {
+            put32(bytes, 44, self.scatter_offset);
+        }
         if self.head() >= 64 {
             put32(bytes, 56, (self.code_limit64 >> 32) as u32);
             put32(bytes, 60, self.code_limit64 as u32);

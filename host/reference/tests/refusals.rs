@@ -96,6 +96,7 @@ fn directory_10_to_18() {
     refused(&with_signature(|s| s[DIRECTORY + 39] = 13), 14, 0);
     refused(&with_signature(|s| put32(s, DIRECTORY + 12, 0x33F03)), 46, 0);
     refused(&with_signature(|s| s[DIRECTORY + 63] = 1), 15, 0);
+    refused(&with_signature(|s| s[DIRECTORY + 47] = 1), 35, 0);
     refused(&with_signature(|s| put32(s, DIRECTORY + 28, 2)), 16, 0);
     refused(&with_signature(|s| put32(s, DIRECTORY + 16, 439)), 17, 0);
     refused(&with_signature(|s| put32(s, DIRECTORY + 20, 87)), 18, 0);
@@ -110,6 +111,26 @@ fn flags_46() {
     }
     for flags in [1, 0x33F03, 0x80000002, u32::MAX] {
         refused(&with_plan(|p| p.directory.flags = flags), 46, 0);
+    }
+}
+
+/// The four bytes at 44, by the version: an older directory has its identifier there.
+#[test]
+fn scatter_35() {
+    for byte in [0, 8, 16, 24].map(|shift| 1 << shift) {
+        for version in [0x20100, 0x202FF, 0x20300, 0x20600] {
+            let with = |p: &mut InputsPlan| {
+                (p.directory.version, p.directory.scatter_offset) = (version, byte);
+            };
+            refused(&with_plan(with), 35, 0);
+        }
+        for version in [0x20001, 0x200FF] {
+            let with = |p: &mut InputsPlan| {
+                p.directory.version = version;
+                p.directory.identifier = byte.to_be_bytes().to_vec();
+            };
+            assert_eq!(with_plan(with).check(9).0.number, 0);
+        }
     }
 }
 

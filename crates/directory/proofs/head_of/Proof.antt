@@ -1,5 +1,5 @@
 -- The version is the field, by its definition.
-use Rattle.directory.specs.Rows.{headOf}
+use Rattle.directory.specs.Head.{headOf}
 use native.Mathlib.Omega.{arith}
 use borrow.Author.Needs.{needs}
 use Rattle.directory.proofs.head_of.Statement.{statement}

@@ -1,7 +1,7 @@
 -- Each arm is a range of the table, and the default is what no range holds.
 use native.Mathlib.Omega.{arith}
 use Rattle.refusals.proofs.Ranges.{hits, misses}
-use Rattle.directory.specs.Rows.{headSize, headSizes}
+use Rattle.directory.specs.Head.{headSize, headSizes}
 use Rattle.directory.proofs.head_size.Statement.{statement}
 use Rattle.directory.proofs.head_size.Tie as tie
 

@@ -1,4 +1,4 @@
-//! Tests 10 to 18, with 46 after 14.
+//! Tests 10 to 18, with 46 after 14 and 35 after 15.
 
 use super::superblob::Index;
 use super::{be32, refuse, Tested};
@@ -32,7 +32,7 @@ fn head_size(version: u32) -> Option<usize> {
     }
 }
 
-/// Tests 10 to 15; the blob and its head's size.
+/// Tests 10 to 35; the blob and its head's size.
 fn head<'a>(index: &Index<'a>) -> Tested<(&'a [u8], usize)> {
     let Some(bytes) = index.blob(0) else {
         return refuse(10);
@@ -58,6 +58,9 @@ fn head<'a>(index: &Index<'a>) -> Tested<(&'a [u8], usize)> {
     }
     if version >= 0x20300 && bytes[56..64] != [0; 8] {
         return refuse(15);
+    }
+    if version >= 0x20100 && bytes[44..48] != [0; 4] {
+        return refuse(35);
     }
     Ok((bytes, head))
 }

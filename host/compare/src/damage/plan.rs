@@ -10,11 +10,12 @@ use crate::plan::{some_bytes, OTHERS};
 
 type Damage = fn(&mut InputsPlan, &mut Random);
 
-const DAMAGES: [Damage; 21] = [
+const DAMAGES: [Damage; 22] = [
     version,
     hash_kind,
     page_shift,
     flags,
+    scatter_offset,
     code_limit64,
     code_count,
     code_limit,
@@ -58,6 +59,11 @@ fn page_shift(plan: &mut InputsPlan, random: &mut Random) {
 /// Only a bit that is not allowed refuses.
 fn flags(plan: &mut InputsPlan, random: &mut Random) {
     plan.directory.flags ^= 1 << random.below(32);
+}
+
+/// A version without the field has other bytes there, and none of them refuses.
+fn scatter_offset(plan: &mut InputsPlan, random: &mut Random) {
+    plan.directory.scatter_offset = 1 << random.below(32);
 }
 
 fn code_limit64(plan: &mut InputsPlan, random: &mut Random) {

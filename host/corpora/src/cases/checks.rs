@@ -13,7 +13,9 @@ use crate::case::{operation, Case, CACHE, FACTS, IMAGE, INFO, MARKS, RANGE, RESO
 mod chains;
 mod faults;
 mod flags;
+mod pairs;
 mod rechecks;
+mod scatter;
 mod whole;
 
 /// What a call is.
@@ -47,6 +49,8 @@ pub fn cases() -> Vec<Call> {
     let mut calls = Vec::new();
     whole::add(&mut calls);
     flags::add(&mut calls);
+    scatter::add(&mut calls);
+    pairs::add(&mut calls);
     rechecks::add(&mut calls);
     chains::add(&mut calls);
     calls
@@ -89,6 +93,12 @@ impl Call {
             marks: marks.to_vec(),
             ..Call::whole(name, inputs, 0)
         }
+    }
+
+    /// A whole check and a recheck that differ in what they are lent beside the signature.
+    fn both(calls: &mut Vec<Call>, name: &str, inputs: &Inputs, range: &Range, marks: &[u8]) {
+        calls.push(Call::whole(format!("check, {name}"), inputs, 5));
+        calls.push(Call::recheck(format!("recheck, {name}"), inputs, range, marks));
     }
 
     /// A recheck that goes on with the marks of the call before.

@@ -11,7 +11,8 @@ use crate::case::Case;
 /// Looked up beside the known types.
 const UNKNOWN: [u32; 9] = [1, 3, 4, 6, 12, 0x1005, 0xFFFF, 0x10001, u32::MAX];
 
-/// The first version that has codeLimit64, and so test 15.
+/// The first versions that have scatterOffset and codeLimit64, and so tests 35 and 15.
+const WITH_SCATTER: u32 = 0x20100;
 const WITH_CODE_LIMIT_64: u32 = 0x20300;
 
 /// What tells one signature from another.
@@ -128,15 +129,22 @@ impl Reader {
         Subject::new(plan, head as u32, self.special as u32)
     }
 
+    /// Whether its version has what the test looks at.
+    fn has(&self, test: u32) -> bool {
+        match test {
+            15 => self.version >= WITH_CODE_LIMIT_64,
+            35 => self.version >= WITH_SCATTER,
+            _ => true,
+        }
+    }
+
     /// The signature, and its faults: those over positions at a place that is not the
     /// number.
     fn cases(&self) -> Vec<Named> {
         let subject = self.subject();
         let name = format!("reader of version {:#x}", self.version);
         let mut cases = vec![Named { name: name.clone(), signature: subject.bytes() }];
-        let has_15 = self.version >= WITH_CODE_LIMIT_64;
-        let tests = TESTS.into_iter().filter(|&number| number != 15 || has_15);
-        for number in tests {
+        for number in TESTS.into_iter().filter(|&number| self.has(number)) {
             let mut signature = subject.bytes();
             subject.damage(&mut signature, number, self.position);
             cases.push(Named { name: format!("{name}, refused by {number}"), signature });

@@ -32,11 +32,15 @@ pub const OUTSIDE: [Fault; 13] = [
 pub const FLAGS: Fault =
     ("flags 0x80000002", |s| put32(&mut s.signature, DIRECTORY + 12, 0x80000002));
 
-/// In the signature: from 18 down to 1, 46 among them.
-pub const SIGNATURE: [Fault; 19] = [
+/// A scatterOffset of 1.
+pub const SCATTER: Fault = ("scatterOffset 1", |s| s.signature[DIRECTORY + 47] = 1);
+
+/// In the signature: from 18 down to 1, 35 and 46 among them.
+pub const SIGNATURE: [Fault; 20] = [
     ("identOffset 87", |s| put32(&mut s.signature, DIRECTORY + 20, 87)),
     ("hashOffset 439", |s| put32(&mut s.signature, DIRECTORY + 16, 439)),
     ("two code slots", |s| put32(&mut s.signature, DIRECTORY + 28, 2)),
+    SCATTER,
     ("codeLimit64 not 0", |s| s.signature[DIRECTORY + 56] = 1),
     FLAGS,
     ("pageSize 1", |s| s.signature[DIRECTORY + 39] = 1),

@@ -23,6 +23,9 @@ pub fn add(cases: &mut Cases) {
     flags(cases);
     other_flags(cases);
     code_limits_64(cases);
+    scatter_offsets(cases);
+    older_than_scatter(cases);
+    other_scatter_offsets(cases);
     code_limits(cases);
     many_slots(cases);
     special_counts(cases);
@@ -173,6 +176,60 @@ fn code_limits_64(cases: &mut Cases) {
         let name = format!("version {version:#x}, identifier over byte 56");
         cases.add(name.as_str(), single(&plan));
         cases.add(name + ", zeros there", with32(&single(&plan), START + 56, 0));
+    }
+}
+
+/// Test 35: each byte of scatterOffset and its neighbours, every version that has it; a field
+/// of codeLimit64 beside it, and a directory that ends with its head.
+fn scatter_offsets(cases: &mut Cases) {
+    for version in VERSIONS.into_iter().filter(|version| *version >= 0x20100) {
+        let plan = one_page(version, 1);
+        let good = single(&plan);
+        for at in 43..49 {
+            let name = format!("version {version:#x}, byte {at} set");
+            cases.add(name, with8(&good, START + at, 1));
+        }
+        for offset in [0x80000000, 0xFFFFFFFF] {
+            let name = format!("version {version:#x}, scatterOffset {offset:#x}");
+            let scattered = with32(&good, START + 44, offset);
+            cases.add(name.as_str(), scattered.clone());
+            cases.add(name.clone() + ", byte 63 set", with8(&scattered, START + 63, 1));
+            let cut = cut_directory(&scattered[START..], plan.head());
+            cases.add(name + ", cut to its head", cut);
+        }
+    }
+}
+
+/// Directories of versions that have no scatterOffset, with each byte at 44 to 47 set: they lie
+/// in the identifier or in a slot.
+fn older_than_scatter(cases: &mut Cases) {
+    for version in [0x20001, 0x200FF] {
+        let mut named = one_page(version, 1);
+        named.identifier = vec![b'i'; 8];
+        let mut slot = named.clone();
+        (slot.hash_offset, slot.special_count) = (Some(44), Some(0));
+        slot.tail = b"behind\0".to_vec();
+        slot.ident_offset = Some(slot.bytes().len() as u32 - 7);
+        for (what, plan) in [("identifier", named), ("a code slot", slot)] {
+            let name = format!("version {version:#x}, {what} at byte 44");
+            let good = single(&plan);
+            cases.add(name.as_str(), good.clone());
+            for number in [0, 1, 0x100, 0x10000, 0x1000000] {
+                let name = format!("{name}, {number:#x} there");
+                cases.add(name, with32(&good, START + 44, number));
+            }
+        }
+    }
+}
+
+/// A scatterOffset that is not the directory's: test 35 does not read it.
+fn other_scatter_offsets(cases: &mut Cases) {
+    let mut alternate = one_page(0x20400, 1);
+    alternate.scatter_offset = 1;
+    for kind in [0x1000, 0x1004] {
+        let blobs = vec![(0, one_page(0x20400, 1).bytes()), (kind, alternate.bytes())];
+        let name = format!("scatterOffset in the directory of type {kind:#x}");
+        cases.add(name, SignaturePlan::new(blobs).bytes());
     }
 }
 
@@ -394,8 +451,8 @@ fn free_fields(cases: &mut Cases) {
         for platform in [1, 255] {
             cases.add(name(format!("platform {platform}")), with8(&good, START + 38, platform));
         }
-        let code_limit_64 = if version < 0x20300 { 0..0 } else { 56..64 };
-        for at in (40..plan.head()).step_by(3).filter(|at| !code_limit_64.contains(at)) {
+        let tested = |at: &usize| (44..48).contains(at) || (56..64).contains(at);
+        for at in (40..plan.head()).step_by(3).filter(|at| !tested(at)) {
             cases.add(name(format!("byte {at} 0xff")), with8(&good, START + at, 0xFF));
         }
     }

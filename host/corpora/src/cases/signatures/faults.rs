@@ -3,7 +3,8 @@
 use reference::make::{put32, BlobPlan, SignaturePlan};
 
 /// Tests 1 to 18, in the order in which they are made.
-pub const TESTS: [u32; 19] = [1, 2, 3, 4, 5, 6, 7, 8, 9, 10, 11, 12, 13, 14, 46, 15, 16, 17, 18];
+pub const TESTS: [u32; 20] =
+    [1, 2, 3, 4, 5, 6, 7, 8, 9, 10, 11, 12, 13, 14, 46, 15, 35, 16, 17, 18];
 
 /// A good signature to damage, with its directory's place.
 pub struct Subject {
@@ -50,6 +51,7 @@ impl Subject {
             14 => bytes[directory + 39] = 13,
             46 => put32(bytes, directory + 12, 0x33F03),
             15 => bytes[directory + 63] = 1,
+            35 => bytes[directory + 47] = 1,
             16 => put32(bytes, directory + 24, 12),
             17 => put32(bytes, directory + 16, self.head + 32 * self.special - 1),
             18 => put32(bytes, directory + 20, self.head - 1),
