@@ -6,15 +6,16 @@
  * threads are independent of each other.
  *
  * Answers. `number` 0 of the whole check says that the image may run. Of any other call it
- * says that every test of that call passes, and not that the image may run. 1 to 34 and 46
+ * says that every test of that call passes, and not that the image may run. 1 to 35 and 46
  * are the refusals, each given exactly when its condition is the first to hold. `place` says
  * where: an index position, a special slot, a cache entry, a category or a page, and 0 where
  * the number names no place.
  *
  * Tests. Each has the number of its refusal, and a call makes its tests in the order that is
  * said below. 46, that the directory's flags hold a bit outside CS_ALLOWED_MACHO (0x33F02),
- * is made after 14 and before 15 wherever 14 is made: "1 to 18" and "1 to 31" have it among
- * them.
+ * is made after 14 and before 15 wherever 14 is made. 35, that its scatterOffset is not 0
+ * (the four bytes at 44 of a directory of version 0x20100 or later), is made after 15 and
+ * before 16 wherever 15 is made. "1 to 18" and "1 to 31" have both among them.
  *
  * Buffers. Each is a pointer and a length in bytes. A pointer must not be null, even with
  * length 0: pass any other pointer then. Any bytes and any lengths may be lent. `marks` is

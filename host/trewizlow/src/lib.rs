@@ -4,8 +4,8 @@
 //! The proof is of the library in the archive that these functions call. This crate is not
 //! part of it: it lends buffers and puts numbers into words, and decides nothing itself.
 //!
-//! Tests are named by the numbers of their refusals. 46 is made after 14 and before 15: "tests
-//! 1 to 18" and "1 to 31" have it among them.
+//! Tests are named by the numbers of their refusals. 46 is made after 14, and 35 after 15: "tests
+//! 1 to 18" and "1 to 31" have both among them.
 //!
 //! ```
 //! use trewizlow::{check, read, recheck, Lent};

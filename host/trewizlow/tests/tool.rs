@@ -2,6 +2,7 @@
 
 mod scratch;
 
+use reference::make::DirectoryPlan;
 use scratch::{check, recheck, run, sample, Scratch};
 
 #[test]
@@ -139,11 +140,16 @@ fn show_prints_parts() {
     assert!(out.contains("\"well_formed\":false") && !out.contains("accepted"));
 }
 
+/// The samples' signature with another directory.
+fn with_directory(scratch: &Scratch, change: impl Fn(&mut DirectoryPlan)) -> String {
+    let mut plan = reference::samples::plan();
+    change(&mut plan.directory);
+    scratch.file("signature", &plan.covered().build().signature)
+}
+
 /// The samples' signature with these flags.
 fn with_flags(scratch: &Scratch, flags: u32) -> String {
-    let mut plan = reference::samples::plan();
-    plan.directory.flags = flags;
-    scratch.file("signature", &plan.covered().build().signature)
+    with_directory(scratch, |directory| directory.flags = flags)
 }
 
 #[test]
@@ -158,30 +164,65 @@ fn show_names_flags() {
     assert!(!out.contains("flags_not_allowed"));
 }
 
-/// Refusal 46 by every command that answers it, each naming what is not allowed.
+/// Every command that tests a signature refuses this one with this line and this note.
+fn refused_by_all(scratch: &Scratch, signature: &str, refused: &str, note: &str) {
+    let (image, cache) = (sample("image.bin"), sample("cache.bin"));
+    let marks = scratch.file("marks", &[0, 1, 1]);
+    for command in [
+        vec!["show", signature],
+        check(signature, &image, &cache),
+        recheck(signature, ["0", "1"], &image, &marks),
+    ] {
+        let (status, out, err) = run(&command);
+        assert!(status == 1 && out.ends_with(&format!("{refused}\n")), "{out}");
+        assert_eq!(err, format!("trewizlow: note: {note}\n"));
+    }
+    assert_eq!(scratch.read("marks"), [0, 1, 1]);
+}
+
+/// Refusal 46, naming what is not allowed.
 #[test]
 fn flags_that_are_not_allowed() {
     let scratch = Scratch::new("not-allowed");
     let signature = with_flags(&scratch, 0x8000_0042);
-    let (image, cache) = (sample("image.bin"), sample("cache.bin"));
-    let marks = scratch.file("marks", &[0, 1, 1]);
-    let refused = "46 0 refused: the directory's flags hold a bit that is not allowed\n";
-    let note =
-        "trewizlow: note: the directory's flags, 0x80000042, hold what is not allowed (46): \
-                0x40, CS_DATAVAULT_CONTROLLER\n";
-    for command in [
-        vec!["show", &signature],
-        check(&signature, &image, &cache),
-        recheck(&signature, ["0", "1"], &image, &marks),
-    ] {
-        let (status, out, err) = run(&command);
-        assert!(status == 1 && out.ends_with(refused), "{out}");
-        assert_eq!(err, note);
-    }
-    assert_eq!(scratch.read("marks"), [0, 1, 1]);
+    refused_by_all(
+        &scratch,
+        &signature,
+        "46 0 refused: the directory's flags hold a bit that is not allowed",
+        "the directory's flags, 0x80000042, hold what is not allowed (46): \
+         0x40, CS_DATAVAULT_CONTROLLER",
+    );
     let (status, out, _) = run(&["show", "--json", &signature]);
     assert!(status == 1 && out.starts_with("{\"number\":46,\"place\":0,"));
     assert!(out.contains("\"flags_not_allowed\":[\"0x40\",\"CS_DATAVAULT_CONTROLLER\"]"));
+}
+
+/// Refusal 35, naming the offset.
+#[test]
+fn scatter_offset_that_is_not_0() {
+    let scratch = Scratch::new("scatter");
+    let signature = with_directory(&scratch, |directory| directory.scatter_offset = 0x60);
+    refused_by_all(
+        &scratch,
+        &signature,
+        "35 0 refused: the directory has a scatterOffset that is not 0",
+        "the directory's scatterOffset, 0x60, is not 0 (35): its code slots need not cover the \
+         image from byte 0 upward",
+    );
+    let (status, out, _) = run(&["show", "--json", &signature]);
+    assert!(status == 1 && out.starts_with("{\"number\":35,\"place\":0,"));
+    assert!(out.contains("\"scatter_offset\":96"));
+}
+
+/// A directory of a version without scatterOffset has its identifier there.
+#[test]
+fn no_scatter_offset_in_an_older_directory() {
+    let scratch = Scratch::new("older");
+    let signature = with_directory(&scratch, |directory| directory.version = 0x200FF);
+    let (status, out, err) = run(&["show", &signature]);
+    assert!(status == 0 && out.contains("com.example.solver") && err.is_empty());
+    let (_, out, _) = run(&["show", "--json", &signature]);
+    assert!(!out.contains("scatter_offset"));
 }
 
 /// The bits and names of `explain 46` are those that `show` lets pass, each of them; it notes

@@ -1,9 +1,6 @@
 //! The flags of a code directory by Apple's names.
 
-use trewizlow::find;
-
-/// The slot type of the directory that is checked.
-const CODE_DIRECTORY: u32 = 0;
+use crate::found::field;
 
 /// CS_ALLOWED_MACHO: what a directory may hold.
 const ALLOWED: u32 = 0x33F02;
@@ -56,11 +53,9 @@ pub fn text(flags: u32) -> String {
     format!("{flags:#x} ({names})")
 }
 
-/// The flags of the signature's directory, which may be refused; none where it is not found
-/// or ends before them.
+/// The flags of the signature's directory, which may be refused.
 fn of(signature: &[u8]) -> Option<u32> {
-    let flags = find(signature, CODE_DIRECTORY).part(signature).get(12..16)?;
-    Some(u32::from_be_bytes(flags.try_into().ok()?))
+    field(signature, 12)
 }
 
 /// Those that are not allowed.

@@ -10,6 +10,7 @@ mod explain;
 mod fault;
 mod files;
 mod flags;
+mod found;
 mod help;
 mod json;
 mod macho;
@@ -21,6 +22,7 @@ mod progress;
 mod recheck;
 mod remarks;
 mod replace;
+mod scatter;
 mod show;
 
 use std::ffi::OsString;

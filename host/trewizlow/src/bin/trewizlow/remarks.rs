@@ -1,8 +1,9 @@
 //! Notes on a signature; there is one only where the library refuses it.
 
 use crate::files::Lent;
-use crate::{flags, macho};
+use crate::{flags, macho, scatter};
 
 pub fn remarks(signature: &Lent) -> impl Iterator<Item = String> {
-    macho::note(signature).into_iter().chain(flags::note(&signature.bytes))
+    let bytes = &signature.bytes;
+    [macho::note(signature), flags::note(bytes), scatter::note(bytes)].into_iter().flatten()
 }

@@ -3,6 +3,7 @@
 use super::{hex, Shown};
 use crate::flags;
 use crate::json::{answer, array, object, string};
+use crate::scatter;
 
 const WELL_FORMED: &str = "the signature is well formed: all of its tests pass";
 
@@ -15,6 +16,9 @@ pub fn text(shown: &Shown) -> String {
     let not_allowed = flags::not_allowed(shown.signature);
     if !not_allowed.is_empty() {
         members.push(("flags_not_allowed", strings(&not_allowed)));
+    }
+    if let Some(offset) = scatter::offset(shown.signature) {
+        members.push(("scatter_offset", offset.to_string()));
     }
     if said.accepted() {
         members.push(("directory", directory(shown)));
