@@ -9,6 +9,16 @@ pub mod readers;
 pub mod signatures;
 pub mod slots;
 
+/// Both ends of each range of versions.
+const VERSIONS: [u32; 13] = [
+    0x20001, 0x200FF, 0x20100, 0x201FF, 0x20200, 0x202FF, 0x20300, 0x203FF, 0x20400, 0x204FF,
+    0x20500, 0x205FF, 0x20600,
+];
+
+/// The first versions that have scatterOffset and codeLimit64, and so tests 35 and 15.
+const WITH_SCATTER: u32 = 0x20100;
+const WITH_CODE_LIMIT_64: u32 = 0x20300;
+
 /// A side file as it is lent. The bytes of one that is not there are not read.
 #[derive(Clone, Debug, Default)]
 pub struct SideFile {

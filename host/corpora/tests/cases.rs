@@ -81,37 +81,57 @@ fn bits_alone() {
     }
 }
 
-/// Each byte at 44 to 47 is 35 from version 0x20100 on and free before, in each call that makes
-/// the test; and so is none of its neighbours.
+const OLDER: [u32; 2] = [0x20001, 0x200FF];
+const WITH_SCATTER: [u32; 11] = [
+    0x20100, 0x201FF, 0x20200, 0x202FF, 0x20300, 0x203FF, 0x20400, 0x204FF, 0x20500, 0x205FF,
+    0x20600,
+];
+
+/// Each byte at 44 to 47 is 35 from version 0x20100 on and free before, in whole checks and in
+/// rechecks.
 #[test]
-fn bytes_of_scatter_offset() {
+fn scatter_offset_of_each_version() {
     let files = subjects::make();
-    let lines = |name: &str| &files.iter().find(|made| made.name == name).unwrap().lines;
-    let versions = [0x20001, 0x200FF, 0x20100, 0x201FF, 0x20200, 0x202FF, 0x20300, 0x20400];
-    for version in versions.into_iter().chain([0x20500, 0x20600]) {
-        let wanted = if version < 0x20100 { "0 0" } else { "35 0" };
+    let lines = &files.iter().find(|made| made.name == "checks").unwrap().lines;
+    let older = OLDER.map(|version| (version, "0 0"));
+    let later = WITH_SCATTER.map(|version| (version, "35 0"));
+    for (version, wanted) in older.into_iter().chain(later) {
         for number in [0, 1, 0x100, 0x10000, 0x1000000, 0xFFFFFFFFu32] {
             for call in ["check", "recheck"] {
                 let name = format!("{call}, version {version:#x}, {number:#x} at byte 44");
                 let wanted = if number == 0 { "0 0" } else { wanted };
-                assert_eq!(answered(lines("checks"), &name), wanted, "{name}");
-            }
-        }
-        for at in 43..49 {
-            let name = format!("version {version:#x}, byte {at} set");
-            let wanted = if (44..48).contains(&at) { "35 0" } else { "0 0" };
-            if version >= 0x20100 {
-                assert_eq!(answered(lines("signatures"), &name), wanted, "{name}");
+                assert_eq!(answered(lines, &name), wanted, "{name}");
             }
         }
     }
-    for version in [0x20001, 0x200FF] {
-        for what in ["identifier", "a code slot"] {
-            for number in [0, 1, 0x100, 0x10000, 0x1000000] {
-                let name = format!("version {version:#x}, {what} at byte 44, {number:#x} there");
-                assert_eq!(answered(lines("signatures"), &name), "0 0", "{name}");
-            }
+}
+
+/// What lies at bytes 44 to 47 of an older directory is free, and so are bytes 43 and 48 of every
+/// other; byte 63 is codeLimit64's from version 0x20300 on.
+#[test]
+fn bytes_about_scatter_offset() {
+    let files = subjects::make();
+    let lines = &files.iter().find(|made| made.name == "signatures").unwrap().lines;
+    for version in WITH_SCATTER {
+        for at in 43..49 {
+            let name = format!("version {version:#x}, byte {at} set");
+            let wanted = if (44..48).contains(&at) { "35 0" } else { "0 0" };
+            assert_eq!(answered(lines, &name), wanted, "{name}");
         }
+        let name = format!("version {version:#x}, scatterOffset 0x80000000");
+        let with_limit = if version < 0x20300 { "35 0" } else { "15 0" };
+        assert_eq!(answered(lines, &format!("{name}, byte 63 set")), with_limit, "{name}");
+        assert_eq!(answered(lines, &format!("{name}, cut to its head")), "35 0", "{name}");
+    }
+    for (version, what) in OLDER.into_iter().flat_map(|v| [(v, "identifier"), (v, "a code slot")]) {
+        for number in [0, 1, 0x100, 0x10000, 0x1000000] {
+            let name = format!("version {version:#x}, {what} at byte 44, {number:#x} there");
+            assert_eq!(answered(lines, &name), "0 0", "{name}");
+        }
+    }
+    for kind in ["0x1000", "0x1004"] {
+        let name = format!("scatterOffset in the directory of type {kind}");
+        assert_eq!(answered(lines, &name), "0 0", "{name}");
     }
 }
 
@@ -130,7 +150,7 @@ fn lookup_in_a_directory_that_is_refused() {
     }
 }
 
-/// 46 and 35 against their neighbours in the table.
+/// 46 and 35 against their neighbours in the table: readers.
 #[test]
 fn another_fault_beside() {
     let files = subjects::make();
@@ -153,6 +173,12 @@ fn another_fault_beside() {
         let name = format!("faults {one} and {other} at position 2");
         assert_eq!(answered(lines, &name), wanted, "{name}");
     }
+}
+
+/// The same of whole checks and rechecks.
+#[test]
+fn another_fault_beside_in_checks() {
+    let files = subjects::make();
     let lines = &files.iter().find(|made| made.name == "checks").unwrap().lines;
     for (one, other, wanted) in [
         ("flags 0x80000002", "hash size 20", "13 0"),
@@ -221,6 +247,6 @@ fn number_of_cases() {
     let counts: Vec<(&str, usize)> =
         made.iter().map(|made| (made.name, made.lines.len())).collect();
     let wanted =
-        [("signatures", 2850), ("readers", 122), ("slots", 682), ("caches", 435), ("checks", 1416)];
+        [("signatures", 2850), ("readers", 122), ("slots", 682), ("caches", 435), ("checks", 1452)];
     assert_eq!(counts, wanted);
 }

@@ -99,12 +99,12 @@ impl<'a> Directory<'a> {
     pub fn page_shift(&self) -> u64 {
         u8_at(self.bytes, 39)
     }
-    /// A field that is there and not 0 puts the code slots out of the file's order.
-    fn scattered(&self) -> bool {
-        self.version() >= WITH_SCATTER && be32(self.bytes, 44) != 0
-    }
-    fn has_code_limit_64(&self) -> bool {
+    fn code_limit_64_set(&self) -> bool {
         self.version() >= WITH_CODE_LIMIT_64 && be64(self.bytes, 56) != 0
+    }
+    /// The code slots then do not cover the file from byte 0 upward.
+    fn scatter_offset_set(&self) -> bool {
+        self.version() >= WITH_SCATTER && be32(self.bytes, 44) != 0
     }
     /// P.
     pub fn page_size(&self) -> u64 {
@@ -193,7 +193,7 @@ pub fn read(signature: &[u8], side_file_too_long: bool) -> Result<Directory<'_>,
     Ok(directory)
 }
 
-/// Tests 11 to 35; the head's size. From 12 bytes on the version is tested first, so a
+/// Tests 11 to 15 and 35; the head's size. From 12 bytes on the version is tested first, so a
 /// directory of 12 bytes with a version outside the ranges is 11.
 fn test_fields(directory: &Directory) -> Result<u64, Answer> {
     if directory.length() < VERSION_END {
@@ -214,10 +214,10 @@ fn test_fields(directory: &Directory) -> Result<u64, Answer> {
     if directory.flags() & !CS_ALLOWED_MACHO != 0 {
         return refuse(46);
     }
-    if directory.has_code_limit_64() {
+    if directory.code_limit_64_set() {
         return refuse(15);
     }
-    if directory.scattered() {
+    if directory.scatter_offset_set() {
         return refuse(35);
     }
     Ok(head)

@@ -56,8 +56,7 @@ pub struct DirectoryPlan {
     pub hash_type: u8,
     pub platform: u8,
     pub page_shift: u8,
-    /// Written where the head has the field.
-    /// Written where the version has it, as is code_limit64.
+    /// This and code_limit64 are written where the head has them.
     pub scatter_offset: u32,
     pub code_limit64: u64,
     /// Without its zero byte.

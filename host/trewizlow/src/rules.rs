@@ -160,7 +160,7 @@ pub static RULES: &[Rule] = &[
         "a mark is neither 0 nor 1",
         PAGE, RECHECK),
     rule(35, "the directory has a scatterOffset that is not 0",
-        "scatterOffset, the four bytes at 44, is present (version 0x20100 and up) and not 0: code slots then need not cover the image from byte 0 upward; tested after 15 and before 16",
+        "scatterOffset, the four bytes at 44, is present (version 0x20100 and up) and not 0: its code slots do not cover the image from byte 0 upward; tested after 15 and before 16",
         "", READING),
     rule(46, "the directory's flags hold a bit that is not allowed",
         "flags hold a bit outside CS_ALLOWED_MACHO, 0x33F02: CS_ADHOC 0x2, CS_HARD 0x100, CS_KILL 0x200, CS_CHECK_EXPIRATION 0x400, CS_RESTRICT 0x800, CS_ENFORCEMENT 0x1000, CS_REQUIRE_LV 0x2000, CS_RUNTIME 0x10000, CS_LINKER_SIGNED 0x20000; tested after 14 and before 15",

@@ -206,7 +206,7 @@ fn scatter_offset_that_is_not_0() {
         &scratch,
         &signature,
         "35 0 refused: the directory has a scatterOffset that is not 0",
-        "the directory's scatterOffset, 0x60, is not 0 (35): its code slots need not cover the \
+        "the directory's scatterOffset, 0x60, is not 0 (35): its code slots do not cover the \
          image from byte 0 upward",
     );
     let (status, out, _) = run(&["show", "--json", &signature]);
@@ -214,15 +214,20 @@ fn scatter_offset_that_is_not_0() {
     assert!(out.contains("\"scatter_offset\":96"));
 }
 
-/// A directory of a version without scatterOffset has its identifier there.
+/// A directory of an older version has its identifier there, and of an unknown one nothing is
+/// said.
 #[test]
-fn no_scatter_offset_in_an_older_directory() {
+fn no_scatter_offset_in_another_version() {
     let scratch = Scratch::new("older");
-    let signature = with_directory(&scratch, |directory| directory.version = 0x200FF);
-    let (status, out, err) = run(&["show", &signature]);
-    assert!(status == 0 && out.contains("com.example.solver") && err.is_empty());
-    let (_, out, _) = run(&["show", "--json", &signature]);
-    assert!(!out.contains("scatter_offset"));
+    for (version, wanted) in [(0x200FF, 0), (0x20601, 1)] {
+        let signature = with_directory(&scratch, |directory| {
+            (directory.version, directory.scatter_offset) = (version, 0x60);
+        });
+        let (status, _, err) = run(&["show", &signature]);
+        assert_eq!((status, err.as_str()), (wanted, ""));
+        let (_, out, _) = run(&["show", "--json", &signature]);
+        assert!(!out.contains("scatter_offset"));
+    }
 }
 
 /// The bits and names of `explain 46` are those that `show` lets pass, each of them; it notes

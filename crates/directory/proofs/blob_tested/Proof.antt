@@ -1,4 +1,4 @@
--- Tests 11 to 35, and where they pass 16 to 18.
+-- Tests 11 to 15 and 35, and where they pass 16 to 18.
 use native.Mathlib.Omega.{arith}
 use Rattle.refusals.proofs.Joined.{stops, goes}
 use Rattle.directory.specs.Rows.{fieldRows, slotRows, blobRows}

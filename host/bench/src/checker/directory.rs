@@ -32,7 +32,7 @@ fn head_size(version: u32) -> Option<usize> {
     }
 }
 
-/// Tests 10 to 35; the blob and its head's size.
+/// Tests 10 to 15 and 35; the blob and its head's size.
 fn head<'a>(index: &Index<'a>) -> Tested<(&'a [u8], usize)> {
     let Some(bytes) = index.blob(0) else {
         return refuse(10);

@@ -61,7 +61,7 @@ fn flags(plan: &mut InputsPlan, random: &mut Random) {
     plan.directory.flags ^= 1 << random.below(32);
 }
 
-/// A version without the field has other bytes there, and none of them refuses.
+/// Changes nothing where the version has no such field.
 fn scatter_offset(plan: &mut InputsPlan, random: &mut Random) {
     plan.directory.scatter_offset = 1 << random.below(32);
 }

@@ -95,7 +95,7 @@ impl Call {
         }
     }
 
-    /// A whole check and a recheck that differ in what they are lent beside the signature.
+    /// A whole check and a recheck with one signature.
     fn both(calls: &mut Vec<Call>, name: &str, inputs: &Inputs, range: &Range, marks: &[u8]) {
         calls.push(Call::whole(format!("check, {name}"), inputs, 5));
         calls.push(Call::recheck(format!("recheck, {name}"), inputs, range, marks));

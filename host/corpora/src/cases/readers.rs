@@ -6,14 +6,11 @@ use reference::make::{blob_of, DirectoryPlan, SignaturePlan};
 
 use super::signatures::faults::{Subject, TESTS};
 use super::signatures::{looked_up, Named, KNOWN};
+use super::{WITH_CODE_LIMIT_64, WITH_SCATTER};
 use crate::case::Case;
 
 /// Looked up beside the known types.
 const UNKNOWN: [u32; 9] = [1, 3, 4, 6, 12, 0x1005, 0xFFFF, 0x10001, u32::MAX];
-
-/// The first versions that have scatterOffset and codeLimit64, and so tests 35 and 15.
-const WITH_SCATTER: u32 = 0x20100;
-const WITH_CODE_LIMIT_64: u32 = 0x20300;
 
 /// What tells one signature from another.
 struct Reader {

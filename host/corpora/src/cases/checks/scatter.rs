@@ -3,11 +3,8 @@
 use reference::inputs::InputsPlan;
 use reference::recheck::Range;
 
+use super::super::{VERSIONS, WITH_SCATTER};
 use super::{striped, Call};
-
-/// Versions without the field, and both ends of those that have it.
-const VERSIONS: [u32; 10] =
-    [0x20001, 0x200FF, 0x20100, 0x201FF, 0x20200, 0x202FF, 0x20300, 0x20400, 0x20500, 0x20600];
 
 /// Each byte at 44 to 47 alone, none, and all. The cache lists each directory. An older one has
 /// its identifier there.
@@ -16,7 +13,7 @@ pub fn add(calls: &mut Vec<Call>) {
         for number in [0, 1, 0x100, 0x10000, 0x1000000, 0xFFFFFFFF] {
             let mut plan = InputsPlan::new(version, striped(1), 12);
             plan.directory.scatter_offset = number;
-            if plan.directory.head() < 48 {
+            if version < WITH_SCATTER {
                 plan.directory.identifier = number.to_be_bytes().to_vec();
             }
             let name = format!("version {version:#x}, {number:#x} at byte 44");

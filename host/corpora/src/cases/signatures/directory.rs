@@ -3,16 +3,11 @@
 use reference::make::{blob_of, put32, with32, with8, DirectoryPlan, SignaturePlan};
 use reference::random::Random;
 
+use super::super::{VERSIONS, WITH_CODE_LIMIT_64, WITH_SCATTER};
 use super::{common, one_page, short_blob, signature_of, single, slots, Cases, EDGES, KNOWN};
 
 /// Where a signature of one blob has its directory.
 const START: usize = 20;
-
-/// Both ends of each range of versions.
-const VERSIONS: [u32; 13] = [
-    0x20001, 0x200FF, 0x20100, 0x201FF, 0x20200, 0x202FF, 0x20300, 0x203FF, 0x20400, 0x204FF,
-    0x20500, 0x205FF, 0x20600,
-];
 
 pub fn add(cases: &mut Cases) {
     no_directory(cases);
@@ -164,7 +159,7 @@ fn code_limits_64(cases: &mut Cases) {
     for version in [0x202FF, 0x20300, 0x203FF, 0x20400, 0x205FF, 0x20600] {
         let plan = one_page(version, 1);
         let good = single(&plan);
-        let first = if version < 0x20300 { 55 } else { 52 };
+        let first = if version < WITH_CODE_LIMIT_64 { 55 } else { 52 };
         for at in first..66 {
             let name = format!("version {version:#x}, byte {at} set");
             cases.add(name, with8(&good, START + at, 1 + at as u8));
@@ -179,10 +174,10 @@ fn code_limits_64(cases: &mut Cases) {
     }
 }
 
-/// Test 35: each byte of scatterOffset and its neighbours, every version that has it; a field
-/// of codeLimit64 beside it, and a directory that ends with its head.
+/// Test 35: each byte of scatterOffset and its neighbours, every version that has it; byte 63 set
+/// beside it, which is codeLimit64's from 0x20300 on, and a directory that ends with its head.
 fn scatter_offsets(cases: &mut Cases) {
-    for version in VERSIONS.into_iter().filter(|version| *version >= 0x20100) {
+    for version in VERSIONS.into_iter().filter(|version| *version >= WITH_SCATTER) {
         let plan = one_page(version, 1);
         let good = single(&plan);
         for at in 43..49 {
