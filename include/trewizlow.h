@@ -17,6 +17,13 @@
  * (the four bytes at 44 of a directory of version 0x20100 or later), is made after 15 and
  * before 16 wherever 15 is made. "1 to 18" and "1 to 31" have both among them.
  *
+ * Limits. A signature has at most 67,108,864 bytes, and a side file that is there 4,194,304
+ * (1). The code limit is codeLimit64 where the directory's version is 0x20300 or later and
+ * it is not 0, be it larger or smaller than codeLimit, and codeLimit elsewhere; it is at
+ * most 17,179,869,184 (15). There are at most 1,048,576 pages, and so marks, and 11 special
+ * slots (16). A trust cache has at most 65,536 entries (24). An image may be longer than the
+ * code limit: no byte behind it is read.
+ *
  * Buffers. Each is a pointer and a length in bytes. A pointer must not be null, even with
  * length 0: pass any other pointer then. Any bytes and any lengths may be lent. `marks` is
  * the only buffer that is written. It may overlap no other buffer of the same call; the
@@ -78,7 +85,9 @@ typedef struct {
     size_t start, length; /* the directory's blob in the signature */
     uint32_t version, flags, hash_offset, ident_offset, special_slots, code_slots;
     uint8_t hash_size, hash_type, platform, page_shift;
-    size_t code_limit, page_size, ident_length; /* page_size: bytes of a page */
+    /* code_limit: codeLimit64 where it is present and not 0, else codeLimit; page_size: bytes
+     * of a page */
+    size_t code_limit, page_size, ident_length;
 } trewizlow_directory;
 
 /* The directory's hash, cut to the 20 bytes that a trust cache lists. */

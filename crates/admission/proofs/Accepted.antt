@@ -7,9 +7,10 @@ use mathlib.Core.Path.{_≡_, sym, subst}
 use lib.ListN.{length}
 use Rattle.refusals.specs.Refusals.{Row, Passes}
 use Rattle.refusals.proofs.Joined.{append-passes, passes-append}
-use Rattle.layout.specs.CodeDirectory.{directoryType, nCodeSlots, codeLimit}
+use Rattle.layout.specs.CodeDirectory.{directoryType, nCodeSlots}
 use Rattle.superblob.specs.Rows.{mostSide, position, blobOf}
 use Rattle.superblob.proofs.Lookup.{has-type, has-position, blob-at}
+use Rattle.directory.specs.Pages.{codeLimit}
 use Rattle.directory.specs.Rows.{mostSpecialSlots, directory, cdhash, signatureRows}
 use Rattle.directory.specs.Formed.{DirectoryFormed, SignatureFormed}
 use Rattle.directory.proofs.Formed.{signature-exactly}

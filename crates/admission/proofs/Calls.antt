@@ -9,9 +9,8 @@ use Rattle.refusals.specs.Refusals.{_≡?_, holds, refuse, accepted, first, Pas
 use Rattle.refusals.proofs.Conditions.{says}
 use Rattle.refusals.proofs.Exact.{Unused, passes}
 use Rattle.refusals.proofs.Joined.{append-passes, stops-at, stops-alone, passed-at, goes-on}
-use Rattle.layout.specs.CodeDirectory.{codeLimit}
 use Rattle.superblob.specs.Rows.{rows, headRows, indexRows}
-use Rattle.directory.specs.Pages.{P}
+use Rattle.directory.specs.Pages.{codeLimit, P}
 use Rattle.directory.specs.Rows.{directory, codeSlots, signatureRows, directoryRows, blobRows, fieldRows, slotRows}
 use Rattle.directory.proofs.Formed.{signature-exactly}
 use Rattle.directory.proofs.Pages.{counted, slotted, fits}

@@ -9,11 +9,11 @@ use lib.ListN.{length}
 use Rattle.refusals.specs.Refusals.{Passes}
 use Rattle.refusals.proofs.Conditions.{said}
 use Rattle.refusals.proofs.Positions.{lowest-below, none-fails}
-use Rattle.layout.specs.CodeDirectory.{nCodeSlots, codeLimit}
+use Rattle.layout.specs.CodeDirectory.{nCodeSlots}
 use Rattle.pages.specs.Pages.{pageCount, pageOf}
 use Rattle.pages.specs.Marks.{slotAt, marksOf, differs, badRows}
 use Rattle.pages.proofs.Marking.{mark-exact, mark-small, marks-length, marks-at}
-use Rattle.directory.specs.Pages.{P, pages}
+use Rattle.directory.specs.Pages.{codeLimit, P, pages}
 use Rattle.directory.specs.Rows.{codeSlots}
 use Rattle.directory.proofs.Slots.{codeSlot-part}
 use Rattle.admission.specs.Admissible.{PagesAgree}

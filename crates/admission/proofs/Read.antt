@@ -4,8 +4,7 @@ use mathlib.Core.List.{List, _++_}
 use mathlib.Core.Path.{_≡_, ap, _∙_}
 use native.Mathlib.Omega.{arith}
 use lib.ListN.{length, take, drop}
-use Rattle.layout.specs.CodeDirectory.{codeLimit}
-use Rattle.directory.specs.Pages.{P}
+use Rattle.directory.specs.Pages.{codeLimit, P}
 use Rattle.directory.specs.Rows.{codeSlots}
 use Rattle.pages.specs.Pages.{metFirst, metEnd}
 use Rattle.pages.specs.Marks.{marksFrom, remarked, PagesHere, RangeHere}

@@ -10,8 +10,8 @@ use Rattle.refusals.specs.Refusals.{refuse, accepted, first}
 use Rattle.refusals.proofs.Conditions.{pick-yes, pick-no}
 use Rattle.refusals.proofs.Exact.{Unused, decides, passes}
 use Rattle.refusals.proofs.Joined.{stops, goes, goes-on}
-use Rattle.layout.specs.CodeDirectory.{codeLimit, nCodeSlots}
-use Rattle.directory.specs.Pages.{P}
+use Rattle.layout.specs.CodeDirectory.{nCodeSlots}
+use Rattle.directory.specs.Pages.{codeLimit, P}
 use Rattle.directory.specs.Rows.{directory, cdhash, signatureRows}
 use Rattle.directory.proofs.Numbers.{signatureRows-unused}
 use Rattle.slots.specs.Slots.{Sides, specialRows}

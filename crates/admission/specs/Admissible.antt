@@ -7,10 +7,10 @@ use lib.ListN.{length}
 use Rattle.digest.specs.Hash.{digest}
 use Rattle.digest.specs.Sha256.{sha256}
 use Rattle.layout.specs.SuperBlob.{count, typeAt}
-use Rattle.layout.specs.CodeDirectory.{directoryType, nCodeSlots, codeLimit}
+use Rattle.layout.specs.CodeDirectory.{directoryType, nCodeSlots}
 use Rattle.superblob.specs.Rows.{mostSide, blobAt}
 use Rattle.superblob.specs.Formed.{Formed}
-use Rattle.directory.specs.Pages.{P}
+use Rattle.directory.specs.Pages.{codeLimit, P}
 use Rattle.directory.specs.Rows.{mostSpecialSlots, cdhash, codeSlot}
 use Rattle.directory.specs.Formed.{DirectoryFormed}
 use Rattle.pages.specs.Pages.{pageOf}

@@ -6,7 +6,8 @@ use mathlib.Core.Path.{_≡_}
 use lib.ListN.{length}
 use Rattle.refusals.specs.declared.Answer.{Answer}
 use Rattle.refusals.specs.Refusals.{_<?_, _≡?_, _≢?_, holds, Row, row, refuse, accepted, first}
-use Rattle.layout.specs.CodeDirectory.{codeLimit, nCodeSlots}
+use Rattle.layout.specs.CodeDirectory.{nCodeSlots}
+use Rattle.directory.specs.Pages.{codeLimit}
 use Rattle.directory.specs.Rows.{directory, cdhash, signatureRows}
 use Rattle.slots.specs.Slots.{specialRows}
 use Rattle.trustcache.specs.Rows.{asNumber, entryOf}

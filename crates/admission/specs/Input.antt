@@ -5,8 +5,8 @@ use mathlib.Core.List.{List}
 use mathlib.Core.Path.{_≡_}
 use lib.ListN.{length}
 use Rattle.refusals.specs.Refusals.{_<?_, pick}
-use Rattle.layout.specs.CodeDirectory.{slotWidth, codeLimit}
-use Rattle.directory.specs.Pages.{P}
+use Rattle.layout.specs.CodeDirectory.{slotWidth}
+use Rattle.directory.specs.Pages.{codeLimit, P}
 use Rattle.directory.specs.Rows.{directory, codeSlots}
 use Rattle.slots.specs.Slots.{Sides, sides}
 use Rattle.trustcache.specs.declared.launch.Launch.{Launch}

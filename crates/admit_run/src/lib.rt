@@ -12,7 +12,6 @@ use trustcache::Launch;
 ghost use mathlib.Core.Path.{_≡_};
 ghost use Prim.Native.Nat.{_<_, _≤_};
 ghost use lib.ListN.{length};
-ghost use Rattle.directory.specs.Rows.{mostPages};
 ghost use Rattle.admit_run.specs.Small.{mostSignatureFile, mostImageFile, mostCacheFile, fileOf, smallLine, marksWanted, smallVerdict, SaidIn, Said};
 
 // The most bytes of each file.
@@ -22,14 +21,15 @@ const IMAGE_MOST: usize = 32768;
 
 const CACHE_MOST: usize = 16384;
 
-// Room for one byte more than each file may have, so that one that is too long shows, and for the marks of every directory that passes.
+// Room for one byte more than each file may have, so that one that is too long shows, and for the marks: slots lie inside the signature, so
+// that it has no more of them than bytes.
 const SIGNATURE_ROOM: usize = SIGNATURE_MOST + 1;
 
 const IMAGE_ROOM: usize = IMAGE_MOST + 1;
 
 const CACHE_ROOM: usize = CACHE_MOST + 1;
 
-const MARKS_ROOM: usize = 65536;
+const MARKS_ROOM: usize = SIGNATURE_MOST;
 
 // What the program says: that a file is not there, that one is too long, or the verdict.
 pub enum Line {
@@ -48,7 +48,7 @@ fn line_of(
     cache: &[u8],
     marks: &mut [u8],
 ) -> Line
-    requires { ⌜ mostPages ≤ length (now marks) ⌝ }
+    requires { ⌜ mostSignatureFile ≤ length (now marks) ⌝ }
     ensures { λ r. ⌜ r ≡ smallLine (fileOf mostSignatureFile «signature_there» (now (signature .entry))) (fileOf mostImageFile «image_there» (now (image .entry))) (fileOf mostCacheFile «cache_there» (now (cache .entry))) ⌝ }
 {
     if !signature_there {
@@ -74,7 +74,7 @@ fn line_of(
 
 // The whole check of three files.
 fn admit(signature: &[u8], image: &[u8], cache: &[u8], marks: &mut [u8]) -> Verdict
-    requires { ⌜ mostPages ≤ length (now marks) ⌝ }
+    requires { ⌜ length (now signature) ≤ length (now marks) ⌝ }
     ensures { λ r. ⌜ r ≡ smallVerdict (now (signature .entry)) (now (image .entry)) (now (cache .entry)) ⌝ }
 {
     let n = marks_wanted(signature);
@@ -100,7 +100,7 @@ fn admit(signature: &[u8], image: &[u8], cache: &[u8], marks: &mut [u8]) -> Verd
 
 // How many marks test 20 wants; 0 where a test before it refuses.
 fn marks_wanted(signature: &[u8]) -> usize
-    ensures { λ r. ⌜ (r ≡ marksWanted (now (signature .entry))) × (r ≤ mostPages) ⌝ }
+    ensures { λ r. ⌜ (r ≡ marksWanted (now (signature .entry))) × (r ≤ length (now (signature .entry))) ⌝ }
 {
     if directory::tested(signature, 0).number != 0 {
         return 0;
@@ -119,7 +119,7 @@ fn read_and_say(
     marks: &mut [u8],
 ) -> Line
     requires { ⌜ (mostSignatureFile < length (now signature)) × (mostImageFile < length (now image)) × (mostCacheFile < length (now cache)) ⌝ }
-    requires { ⌜ mostPages ≤ length (now marks) ⌝ }
+    requires { ⌜ mostSignatureFile ≤ length (now marks) ⌝ }
     ensures { λ r. ⌜ SaidIn (now (signature .exit)) (now (image .exit)) (now (cache .exit)) r ⌝ }
 {
     let first = load(signature_name, signature);

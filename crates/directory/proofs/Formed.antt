@@ -16,7 +16,7 @@ use Rattle.layout.specs.CodeDirectory.{identOffset, pageSize, scatterOffset, co
 use Rattle.superblob.specs.Rows.{rows}
 use Rattle.superblob.proofs.Formed.{formed-exactly}
 use Rattle.directory.specs.Head.{scatterVersion, limit64Version}
-use Rattle.directory.specs.Rows.{directory, zeroAt, identLength, fieldRows, slotRows, blobRows, directoryRows, signatureRows}
+use Rattle.directory.specs.Rows.{mostCodeLimit, directory, zeroAt, identLength, fieldRows, slotRows, blobRows, directoryRows, signatureRows}
 use Rattle.directory.specs.Formed.{DirectoryFormed, DirectoryExactly, SignatureExactly}
 use Rattle.directory.proofs.Flags.{flags-plainly}
 use Rattle.directory.proofs.Since.{since-plainly}
@@ -88,7 +88,7 @@ formed d p =
       hash-size = omega arith;
       page-size = one-of (pageSize d) (p .1 .1 .1 .0);
       flags-allowed = flags-plainly .passes d .0 (p .1 .1 .1 .1 .0);
-      no-limit64 = since-plainly .passes limit64Version codeLimit64 d .0 (p .1 .1 .1 .1 .1 .0);
+      limit64-small = since-plainly .within limit64Version mostCodeLimit codeLimit64 d .0 (p .1 .1 .1 .1 .1 .0);
       no-scatter = since-plainly .passes scatterVersion scatterOffset d .0 (p .1 .1 .1 .1 .1 .1 .0);
       slot-a-page = omega arith;
       few-pages = omega arith;
@@ -111,7 +111,7 @@ formed-passes d f =
     then (f .hash-type, f .hash-size)
     then page-size-passes (pageSize d) (f .page-size)
     then flags-plainly .passes d .1 (f .flags-allowed)
-    then since-plainly .passes limit64Version codeLimit64 d .1 (f .no-limit64)
+    then since-plainly .within limit64Version mostCodeLimit codeLimit64 d .1 (f .limit64-small)
     then since-plainly .passes scatterVersion scatterOffset d .1 (f .no-scatter)
     then (f .slot-a-page, (f .few-pages, f .few-special-slots))
     then slots-inside d .1 (f .slots-inside)

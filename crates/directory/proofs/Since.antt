@@ -1,7 +1,9 @@
 -- Fields of later versions: what their readers find, and the test of such a field plainly, both ways. Assumes nothing.
 use Prim.Native.Nat.{ℕ, _<_, _≤_}
 use mathlib.Core.List.{List}
-use mathlib.Core.Path.{_≡_, refl, sym, _∙_}
+use mathlib.Core.Logic.{_↔_}
+use mathlib.Core.Path.{_≡_, refl, sym, subst}
+use native.Mathlib.Omega.{arith}
 use Rattle.refusals.specs.Refusals.{_<?_}
 use Rattle.refusals.proofs.Conditions.{pick-yes, pick-no}
 use Rattle.endian.proofs.Laws.{big-zero}
@@ -23,18 +25,29 @@ module _ (v : ℕ) (field : List ℕ → ℕ) (d : List ℕ) where
   held : v ≤ version d → field d ≡ since v field d
   held h = since-has (field d) h refl
 
-  not-zero : (since v field d ≡ 0 → ⊥) → (v ≤ version d) × (field d ≡ 0 → ⊥)
-  not-zero ne = split v (version d) (λ h. (h, λ z. ne (sym (held h) ∙ z))) (λ l. absurd (ne (sym (since-older l))))
+  module _ (Q : ℕ → Type 0) where
+    -- what is not said of 0 is said of it exactly where the version has it and it is said of what is read
+    said-of : (Q 0 → ⊥) → Q (since v field d) ↔ ((v ≤ version d) × Q (field d))
+    said-of none = (
+      (λ q. split v (version d) (λ h. (h, subst Q (sym (held h)) q)) (λ l. absurd (none (subst Q (sym (since-older l)) q)))),
+      λ w. subst Q (held (w .0)) (w .1),
+    )
 
-  zero : (v ≤ version d → field d ≡ 0) → since v field d ≡ 0
-  zero f = split v (version d) (λ h. sym (held h) ∙ f h) (λ l. sym (since-older l))
+    -- and what is said of 0 exactly where it is said of what is read if the version has it
+    said-if : Q 0 → Q (since v field d) ↔ (v ≤ version d → Q (field d))
+    said-if nil = (
+      (λ q h. subst Q (sym (held h)) q),
+      λ f. split v (version d) (λ h. subst Q (held h) (f h)) (λ l. subst Q (since-older l) nil),
+    )
 
 pub since-plainly : SincePlainly
 since-plainly =
     record {
-      refuses = λ v field d. (not-zero v field d, λ w z. w .1 (held v field d (w .0) ∙ z));
-      passes = λ v field d. ((λ z h. held v field d h ∙ z), zero v field d);
+      refuses = λ v field d. said-of v field d (λ (n : ℕ). n ≡ 0 → ⊥) (λ ne. ne refl);
+      passes = λ v field d. said-if v field d (λ (n : ℕ). n ≡ 0) refl;
       older = λ v field d l. sym (since-older v field d l);
+      above = λ v m field d. said-of v field d (λ (n : ℕ). m < n) (λ l. omega arith);
+      within = λ v m field d. said-if v field d (λ (n : ℕ). n ≤ m) (omega arith);
     }
 
 pub scatter-zero : ScatterZero

@@ -35,6 +35,19 @@ slots-inside d = (
   ),
 )
 
+-- no more code slots than bytes
+pub few-slots : (d : List ℕ) → SlotsInside d → nCodeSlots d ≤ length d
+few-slots d w = by-test (ltb 0 (nCodeSlots d)) refl
+  where
+    by-test : (b : Bool) → ltb 0 (nCodeSlots d) ≡ b → nCodeSlots d ≤ length d
+    by-test true t =
+        let p : 0 < nCodeSlots d = ltb-true 0 (nCodeSlots d) t in
+        let a = w .code (nCodeSlots d - 1) (omega arith) in
+        omega arith
+    by-test false t =
+        let z : nCodeSlots d ≤ 0 = ltb-false 0 (nCodeSlots d) t in
+        omega arith
+
 part-length : (n o : ℕ) (d : List ℕ) → o + n ≤ length d → length (take n (drop o d)) ≡ n
 part-length n o d h = length-take-le n (drop o d) (omega (arith, length-drop o d))
 

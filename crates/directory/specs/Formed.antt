@@ -12,7 +12,7 @@ use Rattle.superblob.specs.Formed.{Formed}
 use Rattle.directory.specs.Head.{firstVersion, lastVersion, scatterVersion, limit64Version, headOf}
 use Rattle.directory.specs.Pages.{pages}
 use Rattle.directory.specs.Flags.{BitsWithin}
-use Rattle.directory.specs.Rows.{mostPages, mostSpecialSlots, directory, blobRows, signatureRows}
+use Rattle.directory.specs.Rows.{mostPages, mostSpecialSlots, mostCodeLimit, directory, blobRows, signatureRows}
 
 -- every slot lies between the head's end and the directory's
 pub record SlotsInside (d : List ℕ) : Type 0 where
@@ -29,7 +29,7 @@ pub record DirectoryFormed (d : List ℕ) : Type 0 where
   pub hash-size : hashSize d ≡ slotWidth
   pub page-size : (pageSize d ≡ 0) ⊎ ((pageSize d ≡ 12) ⊎ (pageSize d ≡ 14))
   pub flags-allowed : BitsWithin (flags d) allowedFlags
-  pub no-limit64 : limit64Version ≤ version d → codeLimit64 d ≡ 0
+  pub limit64-small : limit64Version ≤ version d → codeLimit64 d ≤ mostCodeLimit
   pub no-scatter : scatterVersion ≤ version d → scatterOffset d ≡ 0
   pub slot-a-page : nCodeSlots d ≡ pages d
   pub few-pages : nCodeSlots d ≤ mostPages

@@ -53,14 +53,18 @@ headOf d = headSize (version d)
 unfoldable pub since : ℕ → (List ℕ → ℕ) → List ℕ → ℕ
 since v field d = pick (version d <? v) 0 (field d)
 
--- a test that such a field is not 0, plainly
+-- tests of such a field, plainly: that it is not 0, and that it is above a number
 pub record SincePlainly : Type 0 where
-  -- it refuses exactly a directory of version v or later whose field is not 0
+  -- a test that it is not 0 refuses exactly a directory of version v or later whose field is not 0
   pub refuses : (v : ℕ) (field : List ℕ → ℕ) (d : List ℕ) → Says true (since v field d ≢? 0) ↔ ((v ≤ version d) × (field d ≡ 0 → ⊥))
   -- and passes exactly one whose field is 0 if it is of version v or later
   pub passes : (v : ℕ) (field : List ℕ → ℕ) (d : List ℕ) → Says false (since v field d ≢? 0) ↔ (v ≤ version d → field d ≡ 0)
   -- so an older one passes with anything there
   pub older : (v : ℕ) (field : List ℕ → ℕ) (d : List ℕ) → version d < v → Says false (since v field d ≢? 0)
+  -- a test that such a field is above m refuses exactly a directory of version v or later whose field is
+  pub above : (v m : ℕ) (field : List ℕ → ℕ) (d : List ℕ) → Says true (m <? since v field d) ↔ ((v ≤ version d) × (m < field d))
+  -- and passes exactly one whose field is at most m if it is of version v or later
+  pub within : (v m : ℕ) (field : List ℕ → ℕ) (d : List ℕ) → Says false (m <? since v field d) ↔ (v ≤ version d → field d ≤ m)
 
 -- scatterOffset is 0 exactly where the four bytes at 44 are
 abbrev pub ScatterZero : Type 0

@@ -20,10 +20,14 @@ use Rattle.directory.specs.Pages.{pages}
 
 -- pages, and so code slots
 abbrev pub mostPages : ℕ
-mostPages = 65536
+mostPages = 1048576
 
 abbrev pub mostSpecialSlots : ℕ
 mostSpecialSlots = 11
+
+-- bytes of code; codeLimit has 32 bits, so that only codeLimit64 can be above
+abbrev pub mostCodeLimit : ℕ
+mostCodeLimit = 17179869184
 
 -- THE DIRECTORY: the blob at the position of type 0
 abbrev pub directory : List ℕ → List ℕ
@@ -81,7 +85,7 @@ fieldRows d =
     ∷ row 13 (hashType d ≢? sha256Type or hashSize d ≢? slotWidth) 0
     ∷ row 14 (pageSize d ≢? 0 and pageSize d ≢? 12 and pageSize d ≢? 14) 0
     ∷ row 46 (flagsOutside d) 0
-    ∷ row 15 (since limit64Version codeLimit64 d ≢? 0) 0
+    ∷ row 15 (mostCodeLimit <? since limit64Version codeLimit64 d) 0
     ∷ row 35 (since scatterVersion scatterOffset d ≢? 0) 0
     ∷ []
 

@@ -2,16 +2,16 @@
 // slots.
 //
 // The directory is the blob of type 0. It is refused where its version has no head size, where its head, a slot or the
-// identifier does not lie inside it, where its hash is not SHA-256, its page size not known, a flag not allowed, its code limit of
-// 64 bits or its pages scattered, and where its slots are not those that its code limit asks for. The table of tests is
-// specs/Rows.antt, the head by its version specs/Head.antt, its pages specs/Pages.antt.
+// identifier does not lie inside it, where its hash is not SHA-256, its page size not known, a flag not allowed, its code limit too
+// large or its pages scattered, and where its slots are not those that its code limit asks for. The table of tests is specs/Rows.antt,
+// the head by its version specs/Head.antt, its code limit and its pages specs/Pages.antt.
 ghost use mathlib.Core.Path.{_≡_};
 ghost use Prim.Native.Nat.{_-_, _<_};
 ghost use lib.ListN.{length};
 ghost use Rattle.refusals.specs.Refusals.{holds, first, accepted};
-ghost use Rattle.layout.specs.CodeDirectory.{identOffset, codeLimit, scatterOffset, codeLimit64};
+ghost use Rattle.layout.specs.CodeDirectory.{identOffset, scatterOffset, codeLimit64};
 ghost use Rattle.directory.specs.Head.{scatterVersion, limit64Version, headSize, headOf, since};
-ghost use Rattle.directory.specs.Pages.{P, pages};
+ghost use Rattle.directory.specs.Pages.{codeLimit, P, pages};
 ghost use Rattle.directory.specs.Rows.{specialOutside, codeOutside, identLength, fieldRows, slotRows, blobRows, signatureRows, specialSlot, codeSlots, cdhash};
 use layout::directory::CodeDirectory;
 use layout::parts::part;
@@ -24,10 +24,13 @@ const SCATTER_VERSION: usize = 0x20100;
 // The first version that has codeLimit64.
 const LIMIT64_VERSION: usize = 0x20300;
 
-const MOST_PAGES: usize = 65536;
+const MOST_PAGES: usize = 1048576;
 
 // The highest special slot.
 pub const MOST_SPECIAL_SLOTS: u32 = 11;
+
+// The most bytes of code. codeLimit has 32 bits: only codeLimit64 can be above.
+const MOST_CODE_LIMIT: u64 = 17179869184;
 
 // Tests 1 to 18. `side` is the length of the longest side file that is there, 0 where none is.
 pub fn tested(sig: &[u8], side: usize) -> Answer
@@ -50,11 +53,15 @@ pub fn cdhash(d: &[u8]) -> [u8; 20]
     digest::cut(digest::digest(d))
 }
 
-// The code limit.
+// The code limit: codeLimit64 where it is present and not 0, else codeLimit.
 pub fn code_limit(d: &[u8]) -> usize
-    ensures { λ r. ⌜ (r ≡ codeLimit (now (d .entry))) × (r < 4294967296) ⌝ }
+    ensures { λ r. ⌜ r ≡ codeLimit (now (d .entry)) ⌝ }
 {
-    CodeDirectory::read(d).code_limit
+    let limit64 = limit64_of(d);
+    if limit64 == 0 {
+        return CodeDirectory::read(d).code_limit32;
+    }
+    limit64 as usize
 }
 
 // Special slot k, counted from 1, which ends where slot k - 1 starts; slot 1 ends at hashOffset. Nothing where the directory has no such slot.
@@ -127,7 +134,7 @@ fn fields_tested(d: &[u8]) -> Answer
     if flags | CodeDirectory::ALLOWED_FLAGS != CodeDirectory::ALLOWED_FLAGS {
         return answer(46, 0);
     }
-    if limit64 != 0 {
+    if MOST_CODE_LIMIT < limit64 {
         return answer(15, 0);
     }
     if scatter != 0 {

@@ -59,8 +59,9 @@ nSpecialSlots d = big 4 d 24
 unfoldable pub nCodeSlots : List ℕ → ℕ
 nCodeSlots d = big 4 d 28
 
-unfoldable pub codeLimit : List ℕ → ℕ
-codeLimit d = big 4 d 32
+-- codeLimit: the code limit itself is chosen of this and codeLimit64
+unfoldable pub codeLimit32 : List ℕ → ℕ
+codeLimit32 d = big 4 d 32
 
 unfoldable pub hashSize : List ℕ → ℕ
 hashSize d = getD d 36 0
@@ -88,7 +89,7 @@ pub record DirectoryRead (d : List ℕ) (h : CodeDirectory) : Type 0 where
   pub identOffset-is : h .«ident_offset» ≡ identOffset d
   pub nSpecialSlots-is : h .«special_slots» ≡ nSpecialSlots d
   pub nCodeSlots-is : h .«code_slots» ≡ nCodeSlots d
-  pub codeLimit-is : h .«code_limit» ≡ codeLimit d
+  pub codeLimit32-is : h .«code_limit32» ≡ codeLimit32 d
   pub hashSize-is : h .«hash_size» ≡ hashSize d
   pub hashType-is : h .«hash_type» ≡ hashType d
   pub platform-is : h .platform ≡ platform d
@@ -101,7 +102,7 @@ pub record DirectoryRead (d : List ℕ) (h : CodeDirectory) : Type 0 where
   pub identOffset-below : h .«ident_offset» < 4294967296
   pub nSpecialSlots-below : h .«special_slots» < 4294967296
   pub nCodeSlots-below : h .«code_slots» < 4294967296
-  pub codeLimit-below : h .«code_limit» < 4294967296
+  pub codeLimit32-below : h .«code_limit32» < 4294967296
   pub hashSize-below : h .«hash_size» < 256
   pub hashType-below : h .«hash_type» < 256
   pub platform-below : h .platform < 256

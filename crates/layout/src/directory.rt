@@ -10,7 +10,8 @@ pub struct CodeDirectory {
     pub ident_offset: usize,
     pub special_slots: usize,
     pub code_slots: usize,
-    pub code_limit: usize,
+    // `codeLimit` in Apple's header. The code limit is chosen of this and codeLimit64.
+    pub code_limit32: usize,
     pub hash_size: usize,
     pub hash_type: usize,
     pub platform: usize,
@@ -68,7 +69,7 @@ impl CodeDirectory {
             ident_offset: endian::be32(d, 0, 20),
             special_slots: endian::be32(d, 0, 24),
             code_slots: endian::be32(d, 0, 28),
-            code_limit: endian::be32(d, 0, 32),
+            code_limit32: endian::be32(d, 0, 32),
             hash_size: endian::byte(d, 0, 36),
             hash_type: endian::byte(d, 0, 37),
             platform: endian::byte(d, 0, 38),

@@ -18,7 +18,7 @@ use Rattle.superblob.specs.declared.Clash.the-variants as clash
 
 -- bytes of a signature
 abbrev pub mostSignature : ℕ
-mostSignature = 4194304
+mostSignature = 67108864
 
 -- bytes of a side file
 abbrev pub mostSide : ℕ

@@ -18,7 +18,7 @@ use refusals::Answer;
 use refusals::answers::answer;
 
 // The longest signature that is read.
-const MOST_SIGNATURE: usize = 4194304;
+const MOST_SIGNATURE: usize = 67108864;
 
 // The longest side file that is read.
 const MOST_SIDE: usize = 4194304;

@@ -12,16 +12,17 @@ use Rattle.refusals.proofs.Conditions.{said, pick-yes, pick-no}
 use Rattle.refusals.proofs.Positions.{none-fails}
 use Rattle.refusals.proofs.Exact.{passes-zero}
 use Rattle.layout.specs.SuperBlob.{count, typeAt, offsetAt, blobLength}
-use Rattle.layout.specs.CodeDirectory.{directoryType, version, flags, hashOffset, identOffset, nSpecialSlots, nCodeSlots, codeLimit, hashSize, hashType, platform, pageSize}
+use Rattle.layout.specs.CodeDirectory.{directoryType, version, flags, hashOffset, identOffset, nSpecialSlots, nCodeSlots, codeLimit32, hashSize, hashType, platform, pageSize, codeLimit64}
 use Rattle.pages.specs.Pages.{pageBytes}
 use Rattle.superblob.specs.Rows.{rows, ofType, position, has, present, startOf, blobAt, blobOf, blobStart, blobEnd, blob}
 use Rattle.superblob.proofs.Numbers.{rows-exact}
 use Rattle.superblob.proofs.Formed.{formed, formed-exactly}
 use Rattle.superblob.proofs.Lookup.{at-position, has-position, blob-found, lookups}
-use Rattle.directory.specs.Pages.{P}
+use Rattle.directory.specs.Pages.{codeLimit, P}
 use Rattle.directory.specs.Rows.{directory, cdhash}
 use Rattle.directory.specs.Formed.{DirectoryFormed, SignatureFormed}
 use Rattle.directory.proofs.Numbers.{signatureRows-exact}
+use Rattle.directory.proofs.Pages.{limit-plainly}
 use Rattle.directory.proofs.Formed.{identifier, signature-exactly}
 use Rattle.trewizlow.specs.Interface.{blobPart, readAnswer, readable, fieldsOf, noFields, directoryFields, directoryHash}
 use Rattle.trewizlow.specs.Shown.{Lies, BlobShown, FieldsShown, NoneShown, DirectoryShown, HashShown}
@@ -91,7 +92,7 @@ unfolding blobOf blobAt
 part-of s = sym (take-part (blobLength s (position s directoryType)) (drop (startOf s directoryType) s))
 
 shown-of : (s : List ℕ) → SignatureFormed 0 s → Passes (rows 0 s) → FieldsShown s (directory s) (fieldsOf (readAnswer s) (startOf s directoryType) (directory s))
-unfolding version flags hashOffset identOffset nSpecialSlots nCodeSlots codeLimit hashSize hashType platform pageSize
+unfolding version flags hashOffset identOffset nSpecialSlots nCodeSlots codeLimit32 hashSize hashType platform pageSize codeLimit64
 shown-of s f p =
     let w = f .formed in
     let i = identifier (directory s) w in
@@ -103,7 +104,8 @@ shown-of s f p =
       identOffset-is = refl;
       nSpecialSlots-is = refl;
       nCodeSlots-is = refl;
-      codeLimit-is = refl;
+      limit-large = limit-plainly .large (directory s);
+      limit-small = limit-plainly .small (directory s);
       hashSize-is = refl;
       hashType-is = refl;
       platform-is = refl;

@@ -6,10 +6,10 @@ use mathlib.Core.List.{List}
 use lib.ListN.{length, replicate}
 use Rattle.refusals.specs.declared.Answer.{Answer}
 use Rattle.refusals.specs.Refusals.{_≡?_, holds, accepted, first}
-use Rattle.layout.specs.CodeDirectory.{directoryType, version, flags, hashOffset, identOffset, nSpecialSlots, nCodeSlots, codeLimit, hashSize, hashType, platform, pageSize}
+use Rattle.layout.specs.CodeDirectory.{directoryType, version, flags, hashOffset, identOffset, nSpecialSlots, nCodeSlots, hashSize, hashType, platform, pageSize}
 use Rattle.layout.specs.TrustCache.{cdhashLength}
 use Rattle.superblob.specs.Rows.{rows, startOf, blobStart, blob}
-use Rattle.directory.specs.Pages.{P}
+use Rattle.directory.specs.Pages.{codeLimit, P}
 use Rattle.directory.specs.Rows.{directory, cdhash, identLength, signatureRows}
 use Rattle.trewizlow.specs.declared.BlobPart.{BlobPart}
 use Rattle.trewizlow.specs.declared.DirectoryFields.{DirectoryFields}

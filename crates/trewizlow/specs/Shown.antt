@@ -1,6 +1,6 @@
 -- What the exported readers answer once more, by the bytes of document 01: the index for where a blob lies, each field's own byte, the size of a page
--- by its shift, the identifier by its zero byte; the hash is that of the directory. `s` is the lent signature.
-use Prim.Native.Nat.{ℕ, _+_, _*_, _^_, _<_}
+-- by its shift, the code limit by its two fields, the identifier by its zero byte; the hash is that of the directory. `s` is the lent signature.
+use Prim.Native.Nat.{ℕ, _+_, _*_, _^_, _<_, _≤_}
 use mathlib.Core.List.{List}
 use mathlib.Core.Path.{_≡_}
 use lib.ListN.{getD, take, drop, replicate}
@@ -39,7 +39,9 @@ pub record FieldsShown (s d : List ℕ) (r : DirectoryFields) : Type 0 where
   pub identOffset-is : r .«ident_offset» ≡ big 4 d 20
   pub nSpecialSlots-is : r .«special_slots» ≡ big 4 d 24
   pub nCodeSlots-is : r .«code_slots» ≡ big 4 d 28
-  pub codeLimit-is : r .«code_limit» ≡ big 4 d 32
+  -- the code limit: codeLimit64 from version 0x20300 on where it is not 0, and codeLimit else
+  pub limit-large : 0x20300 ≤ big 4 d 8 → (big 8 d 56 ≡ 0 → ⊥) → r .«code_limit» ≡ big 8 d 56
+  pub limit-small : (0x20300 ≤ big 4 d 8 → big 8 d 56 ≡ 0) → r .«code_limit» ≡ big 4 d 32
   pub hashSize-is : r .«hash_size» ≡ getD d 36 0
   pub hashType-is : r .«hash_type» ≡ getD d 37 0
   pub platform-is : r .platform ≡ getD d 38 0

@@ -8,7 +8,7 @@ mod pages;
 mod slots;
 mod superblob;
 
-use trewizlow::{Answer, Launch, Lent, Verdict, MOST_SIGNATURE_BYTES};
+use trewizlow::{Answer, Launch, Lent, Verdict, MOST_SIDE_FILE_BYTES};
 
 use directory::Directory;
 
@@ -25,6 +25,10 @@ fn refuse_at<T>(number: u32, place: usize) -> Tested<T> {
 
 fn be32(bytes: &[u8], at: usize) -> u32 {
     u32::from_be_bytes(bytes[at..at + 4].try_into().unwrap())
+}
+
+fn be64(bytes: &[u8], at: usize) -> u64 {
+    u64::from_be_bytes(bytes[at..at + 8].try_into().unwrap())
 }
 
 /// Tests 29 and 30.
@@ -44,7 +48,7 @@ fn launch_test(category: u8, launch: &Launch) -> Tested<()> {
 
 /// Tests 1 to 30; the directory and the cache entry.
 fn test<'a>(lent: &Lent<'a>, marks: usize) -> Tested<(Directory<'a>, usize)> {
-    let too_long = |file: Option<&[u8]>| file.is_some_and(|f| f.len() > MOST_SIGNATURE_BYTES);
+    let too_long = |file: Option<&[u8]>| file.is_some_and(|f| f.len() > MOST_SIDE_FILE_BYTES);
     if too_long(lent.info_plist) || too_long(lent.code_resources) {
         return refuse(1);
     }

@@ -107,7 +107,7 @@ fn scatter_offset_of_each_version() {
 }
 
 /// What lies at bytes 44 to 47 of an older directory is free, and so are bytes 43 and 48 of every
-/// other; byte 63 is codeLimit64's from version 0x20300 on.
+/// other; byte 56 makes codeLimit64 too large from version 0x20300 on.
 #[test]
 fn bytes_about_scatter_offset() {
     let files = subjects::make();
@@ -120,7 +120,7 @@ fn bytes_about_scatter_offset() {
         }
         let name = format!("version {version:#x}, scatterOffset 0x80000000");
         let with_limit = if version < 0x20300 { "35 0" } else { "15 0" };
-        assert_eq!(answered(lines, &format!("{name}, byte 63 set")), with_limit, "{name}");
+        assert_eq!(answered(lines, &format!("{name}, byte 56 set")), with_limit, "{name}");
         assert_eq!(answered(lines, &format!("{name}, cut to its head")), "35 0", "{name}");
     }
     for (version, what) in OLDER.into_iter().flat_map(|v| [(v, "identifier"), (v, "a code slot")]) {
@@ -183,14 +183,18 @@ fn another_fault_beside_in_checks() {
     for (one, other, wanted) in [
         ("flags 0x80000002", "hash size 20", "13 0"),
         ("flags 0x80000002", "pageSize 1", "14 0"),
-        ("flags 0x80000002", "codeLimit64 not 0", "46 0"),
+        ("flags 0x80000002", "limit 2^34 + 1", "46 0"),
         ("flags 0x80000002", "scatterOffset 1", "46 0"),
         ("flags 0x80000002", "two code slots", "46 0"),
         ("flags 0x80000002", "hashOffset 439", "46 0"),
         ("flags 0x80000002", "identOffset 87", "46 0"),
         ("scatterOffset 1", "pageSize 1", "14 0"),
-        ("scatterOffset 1", "codeLimit64 not 0", "15 0"),
+        ("scatterOffset 1", "limit 2^34 + 1", "15 0"),
         ("scatterOffset 1", "two code slots", "35 0"),
+        ("limit 2^34 + 1", "pageSize 1", "14 0"),
+        ("limit 2^34 + 1", "two code slots", "15 0"),
+        ("limit 2^34 + 1", "hashOffset 439", "15 0"),
+        ("limit 2^34 + 1", "identOffset 87", "15 0"),
         ("scatterOffset 1", "hashOffset 439", "35 0"),
         ("scatterOffset 1", "identOffset 87", "35 0"),
     ] {
@@ -198,6 +202,66 @@ fn another_fault_beside_in_checks() {
             let name = format!("{call}, {one} and {other}");
             assert_eq!(answered(lines, &name), wanted, "{name}");
         }
+    }
+}
+
+/// The code limit is codeLimit64 where that is present and not 0, be it the smaller one, and 15
+/// from 2^34 + 1 on alone: readers.
+#[test]
+fn limits_of_readers() {
+    let files = subjects::make();
+    let lines = &files.iter().find(|made| made.name == "signatures").unwrap().lines;
+    for (name, wanted) in [
+        ("limits 4096/0/14, codeLimit's count", "0 0"),
+        ("limits 2^32 - 1/0/0, codeLimit's count", "0 0"),
+        ("limits 4096/1/12, codeLimit64's count", "0 0"),
+        ("limits 4096/8193/12, codeLimit64's count", "0 0"),
+        ("limits 4096/8193/12, codeLimit's count", "16 0"),
+        ("limits 2^32 - 1/4097/12, codeLimit64's count", "0 0"),
+        ("limits 2^32 - 1/4097/12, codeLimit's count", "16 0"),
+        ("limits 0/5/12, codeLimit64's count", "0 0"),
+        ("limits 0/5/12, codeLimit's count", "16 0"),
+        ("limits 0/2^32/12, codeLimit64's count", "17 0"),
+        ("limits 0/2^32 + 1/12, codeLimit64's count", "16 0"),
+        ("limits 0/2^34/14, codeLimit64's count", "17 0"),
+        ("limits 0/2^34/0, codeLimit64's count", "0 0"),
+        ("limits 0/2^34 + 1/0, codeLimit64's count", "15 0"),
+        ("limits 4096/2^64 - 1/12, codeLimit64's count", "15 0"),
+        ("version 0x202ff, 2^64 - 1 at byte 56, one page", "0 0"),
+        ("version 0x20600, 2^64 - 1 at byte 56, one page", "15 0"),
+        ("version 0x20600, 2^34 at byte 56, one page", "0 0"),
+    ] {
+        assert_eq!(answered(lines, name), wanted, "{name}");
+    }
+}
+
+/// The same of whole checks and rechecks.
+#[test]
+fn limits_of_checks() {
+    let files = subjects::make();
+    let lines = &files.iter().find(|made| made.name == "checks").unwrap().lines;
+    for (name, wanted) in [
+        ("check, limits 9000/5000/12", "0 0"),
+        ("check, limits 9000/5000/12, next byte changed", "0 0"),
+        ("check, limits 9000/5000/12, last byte changed", "31 1"),
+        ("check, limits 9000/5000/12, codeLimit's marks", "20 0"),
+        ("check, limits 5000/9000/12", "0 0"),
+        ("check, limits 5000/9000/12, byte missing", "19 0"),
+        ("check, limits 5000/9000/0, last byte changed", "31 0"),
+        ("recheck, limits 9000/5000/12, to codeLimit", "32 0"),
+        ("recheck, limits 5000/9000/0, to codeLimit64 + 1", "32 0"),
+        ("check, version 0x202ff, 0x1388 at 56", "0 0"),
+        ("recheck, version 0x202ff, 0xffffffffffffffff at 56", "0 0"),
+        ("check, one page of 2^34, 1 marks", "19 0"),
+        ("check, one page of 2^34, 0 marks", "19 0"),
+        ("check, one page of 2^34 + 1, 1 marks", "15 0"),
+        ("recheck, page of 2^34, limit + 0, none", "31 0"),
+        ("recheck, page of 2^34, limit + 1, none", "32 0"),
+        ("recheck, page of 2^34, 2^32 + 1, none", "33 0"),
+        ("recheck, page of 2^32, 2^32 + 1, none", "32 0"),
+        ("recheck, page of 2^34, 2 marks", "20 0"),
+    ] {
+        assert_eq!(answered(lines, name), wanted, "{name}");
     }
 }
 
@@ -247,6 +311,6 @@ fn number_of_cases() {
     let counts: Vec<(&str, usize)> =
         made.iter().map(|made| (made.name, made.lines.len())).collect();
     let wanted =
-        [("signatures", 2850), ("readers", 122), ("slots", 682), ("caches", 435), ("checks", 1452)];
+        [("signatures", 3278), ("readers", 185), ("slots", 682), ("caches", 435), ("checks", 1850)];
     assert_eq!(counts, wanted);
 }

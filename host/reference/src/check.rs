@@ -7,7 +7,7 @@ use crate::directory::{self, Directory};
 use crate::launch::{self, Launch};
 use crate::pages;
 use crate::slots::{self, SideFiles};
-use crate::superblob::MOST_BYTES;
+use crate::superblob::MOST_SIDE_FILE;
 
 /// What a whole check is lent, but for the marks.
 #[derive(Clone, Copy, Debug)]
@@ -21,7 +21,7 @@ pub struct Lent<'a> {
 
 /// The second half of test 1. A file that is not there is not looked at.
 fn side_file_too_long(files: &SideFiles) -> bool {
-    let too_long = |file: Option<&[u8]>| file.is_some_and(|f| f.len() as u64 > MOST_BYTES);
+    let too_long = |file: Option<&[u8]>| file.is_some_and(|f| f.len() as u64 > MOST_SIDE_FILE);
     too_long(files.info) || too_long(files.resources)
 }
 

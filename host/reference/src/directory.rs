@@ -12,7 +12,8 @@ use crate::superblob;
 pub const SLOT: u64 = 32;
 pub const CS_HASHTYPE_SHA256: u64 = 2;
 pub const CSSLOT_CODEDIRECTORY: u64 = 0;
-pub const MOST_CODE_SLOTS: u64 = 65_536;
+pub const MOST_CODE_SLOTS: u64 = 1_048_576;
+pub const MOST_CODE_LIMIT: u64 = 17_179_869_184;
 pub const MOST_SPECIAL_SLOTS: u64 = 11;
 /// Bytes of the directory's hash that a trust cache lists.
 pub const CS_CDHASH_LEN: usize = 20;
@@ -83,7 +84,11 @@ impl<'a> Directory<'a> {
     pub fn code_slots(&self) -> u64 {
         be32(self.bytes, 28)
     }
+    /// codeLimit64 where the version has it and it is not 0, else codeLimit.
     pub fn code_limit(&self) -> u64 {
+        if self.version() >= WITH_CODE_LIMIT_64 && be64(self.bytes, 56) != 0 {
+            return be64(self.bytes, 56);
+        }
         be32(self.bytes, 32)
     }
     pub fn hash_size(&self) -> u64 {
@@ -98,9 +103,6 @@ impl<'a> Directory<'a> {
     /// The pageSize field: the power of two, or 0 for one page.
     pub fn page_shift(&self) -> u64 {
         u8_at(self.bytes, 39)
-    }
-    fn code_limit_64_set(&self) -> bool {
-        self.version() >= WITH_CODE_LIMIT_64 && be64(self.bytes, 56) != 0
     }
     /// The code slots then do not cover the file from byte 0 upward.
     fn scatter_offset_set(&self) -> bool {
@@ -214,7 +216,7 @@ fn test_fields(directory: &Directory) -> Result<u64, Answer> {
     if directory.flags() & !CS_ALLOWED_MACHO != 0 {
         return refuse(46);
     }
-    if directory.code_limit_64_set() {
+    if directory.code_limit() > MOST_CODE_LIMIT {
         return refuse(15);
     }
     if directory.scatter_offset_set() {

@@ -14,6 +14,11 @@ pub fn put32(bytes: &mut [u8], at: usize, value: u32) {
     bytes[at..at + 4].copy_from_slice(&value.to_be_bytes());
 }
 
+/// Writes a big-endian number over eight bytes.
+pub fn put64(bytes: &mut [u8], at: usize, value: u64) {
+    bytes[at..at + 8].copy_from_slice(&value.to_be_bytes());
+}
+
 /// The same bytes with a big-endian number written at `at`.
 pub fn with32(bytes: &[u8], at: usize, value: u32) -> Vec<u8> {
     let mut changed = bytes.to_vec();
@@ -154,8 +159,7 @@ impl DirectoryPlan {
             put32(bytes, 44, self.scatter_offset);
         }
         if self.head() >= 64 {
-            put32(bytes, 56, (self.code_limit64 >> 32) as u32);
-            put32(bytes, 60, self.code_limit64 as u32);
+            put64(bytes, 56, self.code_limit64);
         }
     }
 }

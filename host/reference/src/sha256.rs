@@ -44,9 +44,10 @@ fn small_sigma1(x: u32) -> u32 {
     x.rotate_right(17) ^ x.rotate_right(19) ^ (x >> 10)
 }
 
-/// §5.1.1: a one bit, zeros, and the length in bits as 64 bits.
-fn padded(message: &[u8]) -> Vec<u8> {
-    let mut padded = message.to_vec();
+/// §5.1.1: the bytes behind the last whole block, a one bit, zeros, and the message's length in
+/// bits as 64 bits. The blocks before are not copied: a message may have gigabytes.
+fn padded_end(message: &[u8]) -> Vec<u8> {
+    let mut padded = message.chunks_exact(BLOCK).remainder().to_vec();
     padded.push(0x80);
     while padded.len() % BLOCK != BLOCK - 8 {
         padded.push(0);
@@ -89,7 +90,7 @@ fn compress(h: [u32; 8], w: &[u32; 64]) -> [u32; 8] {
 /// The digest of the whole message.
 pub fn digest(message: &[u8]) -> [u8; 32] {
     let mut h = H0;
-    for block in padded(message).chunks(BLOCK) {
+    for block in message.chunks_exact(BLOCK).chain(padded_end(message).chunks_exact(BLOCK)) {
         h = compress(h, &schedule(block));
     }
     let mut digest = [0u8; 32];

@@ -7,8 +7,9 @@
 use crate::answer::{refuse, refuse_at, Answer, DONE};
 use crate::bytes::{be32, part};
 
-/// The most bytes that a signature, or a side file of a whole check, may have.
-pub const MOST_BYTES: u64 = 4_194_304;
+/// The most bytes of a signature, and of a side file of a whole check.
+pub const MOST_SIGNATURE: u64 = 67_108_864;
+pub const MOST_SIDE_FILE: u64 = 4_194_304;
 pub const MOST_BLOBS: u64 = 64;
 /// Bytes of the SuperBlob before its index.
 pub const HEAD: u64 = 12;
@@ -95,7 +96,7 @@ fn overlaps(signature: &[u8], position: u64) -> bool {
 /// whole check can meet.
 pub fn test(signature: &[u8], side_file_too_long: bool) -> Result<(), Answer> {
     let lent = signature.len() as u64;
-    if !(HEAD..=MOST_BYTES).contains(&lent) || side_file_too_long {
+    if !(HEAD..=MOST_SIGNATURE).contains(&lent) || side_file_too_long {
         return refuse(1);
     }
     if be32(signature, 0) != CSMAGIC_EMBEDDED_SIGNATURE {

@@ -1,9 +1,10 @@
 //! Every number of the table, reached by a small case.
 
 use reference::answer::Answer;
+use reference::directory::MOST_CODE_LIMIT;
 use reference::inputs::{Inputs, InputsPlan, SYSTEM_SERVICE};
 use reference::launch::Launch;
-use reference::make::{blob_of, put32, CacheEntry};
+use reference::make::{blob_of, put32, put64, CacheEntry};
 use reference::recheck::{recheck, Range};
 use reference::superblob;
 
@@ -76,7 +77,7 @@ fn superblob_1_to_9() {
 /// The side files' half of test 1 stands before 2 and looks only at files that are there.
 #[test]
 fn long_side_files() {
-    let most = superblob::MOST_BYTES as usize;
+    let most = superblob::MOST_SIDE_FILE as usize;
     refused(&with_plan(|p| p.info = Some(vec![0; most + 1])), 1, 0);
     refused(&with_plan(|p| p.resources = Some(vec![0; most + 1])), 1, 0);
     refused(&with_plan(|p| p.info = Some(vec![0; most])), 22, 1);
@@ -95,7 +96,7 @@ fn directory_10_to_18() {
     refused(&with_signature(|s| s[DIRECTORY + 37] = 1), 13, 0);
     refused(&with_signature(|s| s[DIRECTORY + 39] = 13), 14, 0);
     refused(&with_signature(|s| put32(s, DIRECTORY + 12, 0x33F03)), 46, 0);
-    refused(&with_signature(|s| s[DIRECTORY + 63] = 1), 15, 0);
+    refused(&with_signature(|s| put64(s, DIRECTORY + 56, MOST_CODE_LIMIT + 1)), 15, 0);
     refused(&with_signature(|s| s[DIRECTORY + 47] = 1), 35, 0);
     refused(&with_signature(|s| put32(s, DIRECTORY + 28, 2)), 16, 0);
     refused(&with_signature(|s| put32(s, DIRECTORY + 16, 439)), 17, 0);
@@ -112,6 +113,34 @@ fn flags_46() {
     for flags in [1, 0x33F03, 0x80000002, u32::MAX] {
         refused(&with_plan(|p| p.directory.flags = flags), 46, 0);
     }
+}
+
+/// codeLimit64 is the code limit from version 0x20300 on where it is not 0, be it the smaller one,
+/// and refused above 2^34.
+#[test]
+fn code_limit_15() {
+    let with = |version, limit: u32, large: u64, pages: usize| {
+        let mut plan = InputsPlan::new(version, vec![7; 9000], 12);
+        plan.directory = plan.directory.over(&[7; 9000][..large.clamp(1, 9000) as usize], 12);
+        (plan.directory.code_limit, plan.directory.code_limit64) = (limit, large);
+        Inputs { pages, ..plan.build() }
+    };
+    for version in [0x20300, 0x20600] {
+        assert_eq!(
+            with(version, 9000, 5000, 2).check(9),
+            (Answer { number: 0, place: 0 }, vec![0; 2])
+        );
+        assert_eq!(
+            with(version, 5000, 9000, 3).check(9),
+            (Answer { number: 0, place: 0 }, vec![0; 3])
+        );
+        refused(&with(version, 9000, 5000, 3), 20, 0);
+        refused(&with(version, 5000, 9001, 3), 19, 0);
+        refused(&with(version, 9000, MOST_CODE_LIMIT, 3), 16, 0);
+        refused(&with(version, 9000, MOST_CODE_LIMIT + 1, 3), 15, 0);
+        refused(&with(version, 9000, u64::MAX, 3), 15, 0);
+    }
+    assert_eq!(with(0x202FF, 9000, u64::MAX, 3).check(9).0.number, 0);
 }
 
 /// The four bytes at 44, by the version: an older directory has its identifier there.

@@ -44,9 +44,13 @@ pub use signature::{cdhash, find, read, Blob, CdHash, Directory};
 
 /// The number of the C interface that this crate declares: `TREWIZLOW_INTERFACE` of the header.
 pub const INTERFACE: u32 = 1;
-/// The most bytes of a signature, and of a side file that is there (test 1).
-pub const MOST_SIGNATURE_BYTES: usize = 4_194_304;
+/// The most bytes of a signature (test 1).
+pub const MOST_SIGNATURE_BYTES: usize = 67_108_864;
+/// The most bytes of a side file that is there (test 1).
+pub const MOST_SIDE_FILE_BYTES: usize = 4_194_304;
 /// The length of the longest trust cache: 24 bytes and 24 for each of 65,536 entries (test 24).
 pub const MOST_CACHE_BYTES: usize = 24 + 24 * 65_536;
 /// The most pages, and so the most marks (test 16).
-pub const MOST_PAGES: usize = 65_536;
+pub const MOST_PAGES: usize = 1_048_576;
+/// The largest code limit (test 15).
+pub const MOST_CODE_LIMIT: usize = 17_179_869_184;

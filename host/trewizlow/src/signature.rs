@@ -38,6 +38,7 @@ pub struct Directory {
     pub platform: u8,
     /// The pageSize field: a power of two, or 0 where the whole image is one page.
     pub page_shift: u8,
+    /// codeLimit64 where the version has it and it is not 0, else codeLimit.
     pub code_limit: usize,
     /// Bytes of a page.
     pub page_size: usize,

@@ -5,6 +5,7 @@ mod scratch;
 use std::process::{Command, Stdio};
 
 use scratch::{run, sample, Run, Scratch, TOOL};
+use trewizlow::MOST_SIGNATURE_BYTES;
 
 fn check(signature: &str, image: &str) -> Run {
     run(&scratch::check(signature, image, &sample("cache.bin")))
@@ -152,8 +153,8 @@ fn directories() {
 fn empty_and_long_files() {
     let scratch = Scratch::new("odd");
     let empty = scratch.file("empty", b"");
-    let long = scratch.file("long", &vec![0; 4_194_305]);
-    for (file, word) in [(&empty, "is empty"), (&long, "is longer than 4194304 bytes")] {
+    let long = scratch.sparse("long", MOST_SIGNATURE_BYTES as u64 + 1);
+    for (file, word) in [(&empty, "is empty"), (&long, "is longer than 67108864 bytes")] {
         let (status, out, err) = check(file, &sample("image.bin"));
         assert!(status == 1 && out.starts_with("1 0 refused: "));
         assert!(err.contains(file.as_str()) && err.contains(word));

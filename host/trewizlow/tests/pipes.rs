@@ -46,7 +46,7 @@ fn pipes_are_opened_last() {
 fn images_that_are_not_wanted() {
     let scratch = Scratch::new("unwanted");
     let (signature, cache) = (sample("signature.bin"), sample("cache.bin"));
-    let long = scratch.sparse("long", trewizlow::MOST_SIGNATURE_BYTES as u64 + 1);
+    let long = scratch.sparse("long", trewizlow::MOST_SIDE_FILE_BYTES as u64 + 1);
     let good = check(&signature, "/dev/stdin", &cache);
     for (list, answer) in [
         (check(&cache, "/dev/stdin", &cache), "2 0 refused: "),

@@ -197,6 +197,43 @@ fn flags_that_are_not_allowed() {
     assert!(out.contains("\"flags_not_allowed\":[\"0x40\",\"CS_DATAVAULT_CONTROLLER\"]"));
 }
 
+/// Refusal 15, naming the limit.
+#[test]
+fn code_limit_that_is_too_large() {
+    let scratch = Scratch::new("limit");
+    let limit = 17_179_869_185;
+    let signature = with_directory(&scratch, |directory| directory.code_limit64 = limit);
+    refused_by_all(
+        &scratch,
+        &signature,
+        "15 0 refused: the directory's code limit is above 17,179,869,184",
+        "the directory's codeLimit64, 17179869185, is above 17179869184 (15)",
+    );
+    let (status, out, _) = run(&["show", "--json", &signature]);
+    assert!(status == 1 && out.starts_with("{\"number\":15,\"place\":0,"));
+    assert!(out.contains("\"code_limit64\":17179869185"));
+}
+
+/// `show` says which field the code limit is: codeLimit64 where the version has it and it is not
+/// 0, be it the smaller one.
+#[test]
+fn show_names_the_field_of_the_code_limit() {
+    let scratch = Scratch::new("chosen");
+    let cases = [(0x20300, 0, 10_000, "codeLimit"), (0x20300, 9999, 9999, "codeLimit64")];
+    let others = [(0x20600, 12_288, 12_288, "codeLimit64"), (0x202FF, 9, 10_000, "codeLimit")];
+    for (version, large, limit, field) in cases.into_iter().chain(others) {
+        let signature = with_directory(&scratch, |directory| {
+            (directory.version, directory.code_limit64) = (version, large);
+        });
+        let (status, out, err) = run(&["show", &signature]);
+        assert_eq!((status, err.as_str()), (0, ""));
+        assert!(out.contains(&format!("  code limit     {limit} bytes ({field})\n")), "{out}");
+        let (_, out, _) = run(&["show", "--json", &signature]);
+        let members = format!("\"code_limit\":{limit},\"code_limit_field\":\"{field}\"");
+        assert!(out.contains(&members) && !out.contains("code_limit64\":"), "{out}");
+    }
+}
+
 /// Refusal 35, naming the offset.
 #[test]
 fn scatter_offset_that_is_not_0() {

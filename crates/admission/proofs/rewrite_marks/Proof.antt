@@ -8,7 +8,7 @@ use Rattle.admission.proofs.rewrite_marks.Statement.{statement}
 use Rattle.admission.proofs.rewrite_marks.Tie as tie
 
 inside : (c : tie.After-code-slots) → Inside (c .before .before .first-met .result) (c .before .end-met .result) (length (now (c .before .before .before .before .before .before .before .before .args .marks)))
-inside c = met-inside _ _ _ _ (c .before .before .before .before .page-size .ensures) (c .before .before .before .code-limit .ensures .0) (c .code-slots .ensures) _ _ _ _ (c .before .before .before .before .before .before .before .before .pre) _ _ (c .before .before .first-met .ensures) (c .before .end-met .ensures)
+inside c = met-inside _ _ _ _ (c .before .before .before .before .page-size .ensures) (c .before .before .before .code-limit .ensures) (c .code-slots .ensures) _ _ _ _ (c .before .before .before .before .before .before .before .before .pre) _ _ (c .before .before .first-met .ensures) (c .before .end-met .ensures)
 
 page-size-requires : tie.Need-page-size-requires
 page-size-requires c κs = search needs
@@ -35,13 +35,13 @@ part-mark-pages-end : tie.Need-part-mark-pages-end
 part-mark-pages-end c = let m = inside c in omega arith
 
 mark-pages-requires : tie.Need-mark-pages-requires
-mark-pages-requires c κs = met-here _ _ _ _ (c .before .before .before .before .before .page-size .ensures) (c .before .before .before .before .code-limit .ensures .0) (c .before .code-slots .ensures) _ _ _ _ (c .before .before .before .before .before .before .before .before .before .pre) _ _ (c .before .before .before .first-met .ensures) (c .before .before .end-met .ensures)
+mark-pages-requires c κs = met-here _ _ _ _ (c .before .before .before .before .before .page-size .ensures) (c .before .before .before .before .code-limit .ensures) (c .before .code-slots .ensures) _ _ _ _ (c .before .before .before .before .before .before .before .before .before .pre) _ _ (c .before .before .before .first-met .ensures) (c .before .before .end-met .ensures)
 
 same-length : tie.Need-same-length
 same-length c = search needs
 
 returns : tie.Need-returns
-returns c = met-marked _ _ _ _ (c .before .before .before .before .before .before .before .before .page-size .ensures) (c .before .before .before .before .before .before .before .code-limit .ensures .0) (c .before .before .before .before .code-slots .ensures) _ _ _ _ (c .before .before .before .before .before .before .before .before .before .before .before .before .pre) _ _ (c .before .before .before .before .before .before .first-met .ensures) (c .before .before .before .before .before .end-met .ensures) _ (c .before .before .mark-pages .ensures)
+returns c = met-marked _ _ _ _ (c .before .before .before .before .before .before .before .before .page-size .ensures) (c .before .before .before .before .before .before .before .code-limit .ensures) (c .before .before .before .before .code-slots .ensures) _ _ _ _ (c .before .before .before .before .before .before .before .before .before .before .before .before .pre) _ _ (c .before .before .before .before .before .before .first-met .ensures) (c .before .before .before .before .before .end-met .ensures) _ (c .before .before .mark-pages .ensures)
 
 pub rewrite-marks-spec : {M : Type 1} → statement M
 rewrite-marks-spec =

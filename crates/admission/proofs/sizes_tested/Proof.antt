@@ -19,7 +19,7 @@ count-tested-requires : tie.Need-count-tested-requires
 count-tested-requires c κs = search needs
 
 returns-2 : tie.Need-returns-2
-returns-2 c = image-long _ _ _ _ _ (c .before .before .code-limit .ensures .0) (c .before .if1 .left) (c .count-tested .ensures)
+returns-2 c = image-long _ _ _ _ _ (c .before .before .code-limit .ensures) (c .before .if1 .left) (c .count-tested .ensures)
 
 pub sizes-tested-spec : {M : Type 1} → statement M
 sizes-tested-spec =

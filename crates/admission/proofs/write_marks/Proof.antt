@@ -14,13 +14,13 @@ code-slots-requires : tie.Need-code-slots-requires
 code-slots-requires c κs = search needs
 
 mark-pages-requires : tie.Need-mark-pages-requires
-mark-pages-requires c κs = all-here _ _ _ _ (c .before .before .before .page-size .ensures) (c .before .before .code-limit .ensures .0) (c .before .code-slots .ensures) _ _ (c .before .before .before .before .before .before .before .pre)
+mark-pages-requires c κs = all-here _ _ _ _ (c .before .before .before .page-size .ensures) (c .before .before .code-limit .ensures) (c .before .code-slots .ensures) _ _ (c .before .before .before .before .before .before .before .pre)
 
 same-length : tie.Need-same-length
 same-length c = search needs
 
 returns : tie.Need-returns
-returns c = all-marked _ _ _ _ (c .before .before .before .before .before .before .page-size .ensures) (c .before .before .before .before .before .code-limit .ensures .0) (c .before .before .before .before .code-slots .ensures) _ _ (c .before .before .before .before .before .before .before .before .before .before .pre) _ (c .before .before .mark-pages .ensures)
+returns c = all-marked _ _ _ _ (c .before .before .before .before .before .before .page-size .ensures) (c .before .before .before .before .before .code-limit .ensures) (c .before .before .before .before .code-slots .ensures) _ _ (c .before .before .before .before .before .before .before .before .before .before .pre) _ (c .before .before .mark-pages .ensures)
 
 pub write-marks-spec : {M : Type 1} → statement M
 write-marks-spec =

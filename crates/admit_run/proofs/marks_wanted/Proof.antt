@@ -1,4 +1,4 @@
--- Where tests 1 to 18 pass the directory has at most 65,536 slots; elsewhere none is wanted. Assumes nothing.
+-- Where tests 1 to 18 pass the slots lie inside the signature; elsewhere none is wanted. Assumes nothing.
 use mathlib.Core.Path.{ap, _∙_}
 use native.Mathlib.Omega.{arith}
 use Rattle.layout.specs.CodeDirectory.{nCodeSlots}

@@ -77,7 +77,7 @@ returns c =
       «hash_type» = h .hashType-is i;
       platform = h .platform-is i;
       «page_shift» = h .pageSize-is i;
-      «code_limit» = b .before .before .before .code-limit .ensures .0 i;
+      «code_limit» = b .before .before .before .code-limit .ensures i;
       «page_size» = b .before .before .page-size .ensures i;
       «ident_length» = b .before .ident-length .ensures i;
     })

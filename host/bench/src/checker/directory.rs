@@ -1,7 +1,9 @@
 //! Tests 10 to 18, with 46 after 14 and 35 after 15.
 
+use trewizlow::{MOST_CODE_LIMIT, MOST_PAGES};
+
 use super::superblob::Index;
-use super::{be32, refuse, Tested};
+use super::{be32, be64, refuse, Tested};
 use crate::plain;
 
 pub const SLOT: usize = 32;
@@ -32,6 +34,16 @@ fn head_size(version: u32) -> Option<usize> {
     }
 }
 
+/// codeLimit64 where the version has it and it is not 0, else codeLimit.
+fn code_limit(bytes: &[u8]) -> usize {
+    let large = if be32(bytes, 8) < 0x20300 { 0 } else { be64(bytes, 56) };
+    if large == 0 {
+        be32(bytes, 32) as usize
+    } else {
+        large as usize
+    }
+}
+
 /// Tests 10 to 15 and 35; the blob and its head's size.
 fn head<'a>(index: &Index<'a>) -> Tested<(&'a [u8], usize)> {
     let Some(bytes) = index.blob(0) else {
@@ -56,7 +68,7 @@ fn head<'a>(index: &Index<'a>) -> Tested<(&'a [u8], usize)> {
     if be32(bytes, 12) & !ALLOWED_FLAGS != 0 {
         return refuse(46);
     }
-    if version >= 0x20300 && bytes[56..64] != [0; 8] {
+    if code_limit(bytes) > MOST_CODE_LIMIT {
         return refuse(15);
     }
     if version >= 0x20100 && bytes[44..48] != [0; 4] {
@@ -67,7 +79,7 @@ fn head<'a>(index: &Index<'a>) -> Tested<(&'a [u8], usize)> {
 
 pub fn read<'a>(index: &Index<'a>) -> Tested<Directory<'a>> {
     let (bytes, head) = head(index)?;
-    let code_limit = be32(bytes, 32) as usize;
+    let code_limit = code_limit(bytes);
     let directory = Directory {
         bytes,
         hash_offset: be32(bytes, 16) as usize,
@@ -77,7 +89,7 @@ pub fn read<'a>(index: &Index<'a>) -> Tested<Directory<'a>> {
         page_size: if bytes[39] == 0 { code_limit } else { 1 << bytes[39] },
     };
     let pages = if code_limit == 0 { 0 } else { code_limit.div_ceil(directory.page_size) };
-    if directory.code_slots != pages || pages > 65_536 || directory.special_slots > 11 {
+    if directory.code_slots != pages || pages > MOST_PAGES || directory.special_slots > 11 {
         return refuse(16);
     }
     if directory.slot_outside(head) {

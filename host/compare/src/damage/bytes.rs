@@ -2,7 +2,7 @@
 
 use reference::inputs::Inputs;
 use reference::random::Random;
-use reference::superblob::MOST_BYTES;
+use reference::superblob::{MOST_SIDE_FILE, MOST_SIGNATURE};
 
 use super::{index, rarely};
 use crate::plan::some_bytes;
@@ -92,10 +92,11 @@ fn cache_cut(inputs: &mut Inputs, random: &mut Random) {
 
 /// A signature or a side file at test 1's limit or one byte above it.
 fn too_long(inputs: &mut Inputs, random: &mut Random) {
-    let length = (MOST_BYTES + random.below(2)) as usize;
+    let above = random.below(2);
+    let side_file = Some(vec![0; (MOST_SIDE_FILE + above) as usize]);
     match random.below(3) {
-        0 => inputs.signature.resize(length, 0),
-        1 => inputs.info = Some(vec![0; length]),
-        _ => inputs.resources = Some(vec![0; length]),
+        0 => inputs.signature.resize((MOST_SIGNATURE + above) as usize, 0),
+        1 => inputs.info = side_file,
+        _ => inputs.resources = side_file,
     }
 }

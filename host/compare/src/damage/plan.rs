@@ -1,5 +1,6 @@
 //! Damage to the plan: the directory's fields and slots, what slots cover, launch facts.
 
+use reference::directory::MOST_CODE_LIMIT;
 use reference::inputs::InputsPlan;
 use reference::launch::Launch;
 use reference::make::blob_of;
@@ -10,13 +11,14 @@ use crate::plan::{some_bytes, OTHERS};
 
 type Damage = fn(&mut InputsPlan, &mut Random);
 
-const DAMAGES: [Damage; 22] = [
+const DAMAGES: [Damage; 23] = [
     version,
     hash_kind,
     page_shift,
     flags,
     scatter_offset,
     code_limit64,
+    moved_limit,
     code_count,
     code_limit,
     special_count,
@@ -66,8 +68,35 @@ fn scatter_offset(plan: &mut InputsPlan, random: &mut Random) {
     plan.directory.scatter_offset = 1 << random.below(32);
 }
 
+/// A codeLimit64 beside what codeLimit says, or far from it: where the version has it, it is the
+/// code limit. Half of them come with the count that they want.
 fn code_limit64(plan: &mut InputsPlan, random: &mut Random) {
-    plan.directory.code_limit64 = 1 << random.below(64);
+    let directory = &mut plan.directory;
+    let limit = match random.below(4) {
+        0 => 1 << random.below(64),
+        1 => (1 << *random.pick(&[32, 34])) + random.below(3) - 1,
+        2 => random.below(MOST_CODE_LIMIT + 1),
+        _ => near(directory.code_limit, random).into(),
+    };
+    directory.code_limit64 = limit;
+    if random.below(2) == 0 && limit <= MOST_CODE_LIMIT {
+        let page = match directory.page_shift {
+            0 => limit.max(1),
+            14 => 16_384,
+            _ => 4096,
+        };
+        let count = limit.div_ceil(page) as usize;
+        directory.code_count = Some(count as u32);
+        directory.code.truncate(count);
+    }
+}
+
+/// A codeLimit64 in place of a codeLimit that says something else: the image is still accepted
+/// where the version has it.
+fn moved_limit(plan: &mut InputsPlan, random: &mut Random) {
+    let directory = &mut plan.directory;
+    directory.code_limit64 = directory.code_limit.into();
+    directory.code_limit = near(directory.code_limit, random);
 }
 
 fn code_count(plan: &mut InputsPlan, random: &mut Random) {
@@ -75,10 +104,10 @@ fn code_count(plan: &mut InputsPlan, random: &mut Random) {
     plan.directory.code_count = Some(near(right, random));
 }
 
-/// Large limits with their right count: 65,536 pages pass test 16, one more does not.
+/// Large limits with their right count, but without the slots.
 fn code_limit(plan: &mut InputsPlan, random: &mut Random) {
     let directory = &mut plan.directory;
-    let pages = 65_536 + random.below(2) as u32;
+    let pages = 1 + random.below(1_048_575) as u32;
     match (random.below(3), directory.page_shift) {
         (0, 12) => {
             directory.code_limit = pages * 4096 - random.below(4096) as u32;

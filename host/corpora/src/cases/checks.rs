@@ -13,6 +13,7 @@ use crate::case::{operation, Case, CACHE, FACTS, IMAGE, INFO, MARKS, RANGE, RESO
 mod chains;
 mod faults;
 mod flags;
+mod limits;
 mod pairs;
 mod rechecks;
 mod scatter;
@@ -50,6 +51,7 @@ pub fn cases() -> Vec<Call> {
     whole::add(&mut calls);
     flags::add(&mut calls);
     scatter::add(&mut calls);
+    limits::add(&mut calls);
     pairs::add(&mut calls);
     rechecks::add(&mut calls);
     chains::add(&mut calls);

@@ -20,6 +20,8 @@ struct Reader {
     page_shift: u8,
     special: usize,
     code_limit: u32,
+    /// Not 0 where it is the code limit.
+    code_limit64: u64,
     identifier: usize,
     /// The types of all blobs, the directory's 0 among them.
     kinds: &'static [u32],
@@ -27,9 +29,9 @@ struct Reader {
     position: usize,
 }
 
-/// Versions, page sizes and positions of the directory. The page size of the last is its
+/// Versions, page sizes, code limits and positions of the directory. The page size of some is their
 /// code limit; the fields of the others are all different.
-const READERS: [Reader; 6] = [
+const READERS: [Reader; 9] = [
     Reader {
         version: 0x20001,
         flags: 0x1_0002,
@@ -37,6 +39,7 @@ const READERS: [Reader; 6] = [
         page_shift: 12,
         special: 3,
         code_limit: 4 * 4096 + 77,
+        code_limit64: 0,
         identifier: 9,
         kinds: &[0, 5, 2],
         position: 1,
@@ -48,6 +51,7 @@ const READERS: [Reader; 6] = [
         page_shift: 14,
         special: 5,
         code_limit: 3 * 16384,
+        code_limit64: 0,
         identifier: 21,
         kinds: &[0x10000, 0, 7, 11],
         position: 2,
@@ -59,6 +63,7 @@ const READERS: [Reader; 6] = [
         page_shift: 12,
         special: 11,
         code_limit: 6 * 4096 - 1,
+        code_limit64: 0,
         identifier: 30,
         kinds: &[8, 9, 0x1004, 10, 0],
         position: 3,
@@ -70,6 +75,7 @@ const READERS: [Reader; 6] = [
         page_shift: 14,
         special: 8,
         code_limit: 16384 * 9 + 1,
+        code_limit64: 0,
         identifier: 4,
         kinds: &[2, 5, 7, 0, 0x1000, 0x10000],
         position: 4,
@@ -81,6 +87,7 @@ const READERS: [Reader; 6] = [
         page_shift: 12,
         special: 4,
         code_limit: 13 * 4096 + 4095,
+        code_limit64: 0,
         identifier: 50,
         kinds: &[0x1002, 2, 0, 5, 7, 8, 9, 10, 11, 0x1003, 0x10000],
         position: 4,
@@ -92,24 +99,69 @@ const READERS: [Reader; 6] = [
         page_shift: 0,
         special: 6,
         code_limit: 54_321,
+        code_limit64: 0,
         identifier: 17,
         kinds: &[11, 0, 2],
         position: 1,
     },
+    Reader {
+        version: 0x20300,
+        flags: 0x1100,
+        platform: 5,
+        page_shift: 12,
+        special: 7,
+        code_limit: 99_999,
+        code_limit64: 5 * 4096 + 9,
+        identifier: 40,
+        kinds: &[7, 0, 5],
+        position: 2,
+    },
+    Reader {
+        version: 0x20500,
+        flags: 0x2202,
+        platform: 9,
+        page_shift: 0,
+        special: 10,
+        code_limit: 77,
+        code_limit64: 0x1_2345_6789,
+        identifier: 11,
+        kinds: &[9, 0x1001, 0],
+        position: 1,
+    },
+    Reader {
+        version: 0x205FF,
+        flags: 0x800,
+        platform: 4,
+        page_shift: 0,
+        special: 9,
+        code_limit: 0,
+        code_limit64: 0x4_0000_0000,
+        identifier: 26,
+        kinds: &[0, 0x10000, 10],
+        position: 2,
+    },
 ];
 
 impl Reader {
+    /// The code limit that is read.
+    fn limit(&self) -> u64 {
+        match self.code_limit64 {
+            0 => self.code_limit.into(),
+            limit => limit,
+        }
+    }
+
     fn directory(&self) -> DirectoryPlan {
         let mut plan = DirectoryPlan::new(self.version);
         plan.flags = self.flags;
         plan.platform = self.platform;
         plan.page_shift = self.page_shift;
-        plan.code_limit = self.code_limit;
+        (plan.code_limit, plan.code_limit64) = (self.code_limit, self.code_limit64);
         plan.identifier = vec![b'r'; self.identifier];
         plan.special = vec![[0xA5; 32]; self.special];
         let pages = match self.page_shift {
             0 => 1,
-            shift => self.code_limit.div_ceil(1 << shift),
+            shift => self.limit().div_ceil(1 << shift),
         };
         plan.code = vec![[0xC7; 32]; pages as usize];
         plan

@@ -8,6 +8,7 @@ use crate::case::{operation, Case, SIGNATURE, TYPES};
 
 mod directory;
 pub mod faults;
+mod limits;
 mod order;
 mod random;
 mod superblob;
@@ -48,6 +49,7 @@ pub fn cases() -> Vec<Named> {
     let mut cases = Cases { list: Vec::new(), seen: HashSet::new() };
     superblob::add(&mut cases);
     directory::add(&mut cases);
+    limits::add(&mut cases);
     order::add(&mut cases);
     random::add(&mut cases);
     cases.list

@@ -17,12 +17,13 @@ const HELP: &str = "\
 usage: bench-check [--mib N] [--reps N]
 Checks an image of N MiB (default 200, at most 256) with the proved library and with a
 straightforward Rust checker, N samples each (default 9): whole checks for each page size,
-rechecks of 1 page, 16 pages and all pages, the lookup among 65,536 cache entries, and the
-sample's three pages. Compares answers and marks and prints both times and their ratio. Exit
-status 1 where they differ.
+rechecks of 1 page, 16 pages and all pages, the lookup among 65,536 cache entries, the
+sample's three pages; and at the limits a recheck of 1 page of 1,048,576, an identifier and a
+directory that fill a signature of 64 MiB. Compares answers and marks and prints both times and
+their ratio. Exit status 1 where they differ.
 ";
 
-/// 65,536 pages of 4 KiB.
+/// The image is filled, and held in memory as a whole.
 const MOST_MIB: usize = 256;
 /// Samples of calls that take microseconds; they cost little.
 const SHORT_REPS: usize = 200;
@@ -60,6 +61,18 @@ fn recheck(scene: &Scene, image: &[u8], pages: usize, reps: usize) -> Result<(),
     let first = if pages == scene.pages { 0 } else { scene.pages / 2 };
     let start = first * scene.page_size;
     let bytes = &image[start..image.len().min(start + pages * scene.page_size)];
+    let what = format!("recheck of {pages} of {} pages", scene.pages);
+    recheck_from(&what, scene, start, bytes, reps)
+}
+
+/// A recheck of whole pages from this byte on by both.
+fn recheck_from(
+    what: &str,
+    scene: &Scene,
+    start: usize,
+    bytes: &[u8],
+    reps: usize,
+) -> Result<(), String> {
     let (start, length) = (start as u64, bytes.len() as u64);
     let library: Call = &|marks| {
         let answer = trewizlow::recheck(&scene.signature, start, length, bytes, marks);
@@ -69,9 +82,18 @@ fn recheck(scene: &Scene, image: &[u8], pages: usize, reps: usize) -> Result<(),
         let answer = checker::recheck(&scene.signature, start, length, bytes, marks);
         (answer.number, answer.place)
     };
-    let what = format!("recheck of {pages} of {} pages", scene.pages);
-    print(&what, &measure([library, plain], scene.pages, reps, 0)?);
+    print(what, &measure([library, plain], scene.pages, reps, 0)?);
     Ok(())
+}
+
+/// What grows with the limits on pages and signatures, at those limits.
+fn at_the_limits(reps: usize) -> Result<(), String> {
+    let page = filled(4096);
+    let scene = Scene::most_pages(&page);
+    let what = format!("recheck of 1 of {} pages", scene.pages);
+    recheck_from(&what, &scene, scene.pages / 2 * page.len(), &page, SHORT_REPS)?;
+    recheck_from("tests 1 to 18, identifier 64 MiB", &Scene::longest(true), 0, &[], reps)?;
+    whole("whole check, directory 64 MiB", &Scene::longest(false), &[], reps)
 }
 
 fn run(arguments: &Arguments) -> Result<(), String> {
@@ -98,7 +120,8 @@ fn run(arguments: &Arguments) -> Result<(), String> {
     whole("lookup among 65,536 cache entries", &Scene::new(&[], 12), &[], SHORT_REPS)?;
     let (scene, image) = Scene::sample();
     whole("whole check of the sample", &scene, &image, SHORT_REPS)?;
-    recheck(&scene, &image, 1, SHORT_REPS)
+    recheck(&scene, &image, 1, SHORT_REPS)?;
+    at_the_limits(reps)
 }
 
 fn main() -> ExitCode {

@@ -3,6 +3,7 @@
 use bench::plain;
 use reference::directory::cut;
 use reference::make::{CacheEntry, CachePlan, DirectoryPlan, SignaturePlan};
+use trewizlow::{MOST_PAGES, MOST_SIGNATURE_BYTES};
 
 /// A signature over an image, and a trust cache of as many entries as there may be.
 pub struct Scene {
@@ -45,6 +46,32 @@ impl Scene {
         directory.page_shift = page_shift;
         directory.code_limit = image.len() as u32;
         directory.code = image.chunks(page_size.max(1)).map(digest).collect();
+        Scene::of(&directory, page_size)
+    }
+
+    /// As many pages as there may be, each with the bytes of this one.
+    pub fn most_pages(page: &[u8]) -> Scene {
+        let mut directory = DirectoryPlan::new(VERSION);
+        directory.code_limit64 = (MOST_PAGES * page.len()) as u64;
+        directory.code = vec![digest(page); MOST_PAGES];
+        Scene::of(&directory, page.len())
+    }
+
+    /// No pages, and the longest signature: behind the head its directory has as many bytes as fit.
+    /// They are the identifier, or stand behind it.
+    pub fn longest(in_identifier: bool) -> Scene {
+        let mut directory = DirectoryPlan::new(VERSION);
+        let one = SignaturePlan::new(vec![(0, directory.bytes())]).bytes();
+        let rest = vec![b'i'; MOST_SIGNATURE_BYTES - one.len()];
+        if in_identifier {
+            directory.identifier.extend(rest);
+        } else {
+            directory.tail = rest;
+        }
+        Scene::of(&directory, 0)
+    }
+
+    fn of(directory: &DirectoryPlan, page_size: usize) -> Scene {
         let blob = directory.bytes();
         let cache = full_cache(cut(digest(&blob))).bytes();
         let signature = SignaturePlan::new(vec![(0, blob)]).bytes();

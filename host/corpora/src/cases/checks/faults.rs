@@ -1,8 +1,9 @@
 //! Faults in what `full` builds, each with a name. Made one after the other in this order,
 //! the last one made decides each time.
 
+use reference::directory::MOST_CODE_LIMIT;
 use reference::inputs::Inputs;
-use reference::make::put32;
+use reference::make::{put32, put64};
 
 pub type Fault = (&'static str, fn(&mut Inputs));
 
@@ -32,6 +33,11 @@ pub const OUTSIDE: [Fault; 13] = [
 pub const FLAGS: Fault =
     ("flags 0x80000002", |s| put32(&mut s.signature, DIRECTORY + 12, 0x80000002));
 
+/// A codeLimit64 above 2^34 by one.
+pub const LIMIT: Fault = ("limit 2^34 + 1", |s| {
+    put64(&mut s.signature, DIRECTORY + 56, MOST_CODE_LIMIT + 1);
+});
+
 /// A scatterOffset of 1.
 pub const SCATTER: Fault = ("scatterOffset 1", |s| s.signature[DIRECTORY + 47] = 1);
 
@@ -41,7 +47,7 @@ pub const SIGNATURE: [Fault; 20] = [
     ("hashOffset 439", |s| put32(&mut s.signature, DIRECTORY + 16, 439)),
     ("two code slots", |s| put32(&mut s.signature, DIRECTORY + 28, 2)),
     SCATTER,
-    ("codeLimit64 not 0", |s| s.signature[DIRECTORY + 56] = 1),
+    LIMIT,
     FLAGS,
     ("pageSize 1", |s| s.signature[DIRECTORY + 39] = 1),
     ("hash size 20", |s| s.signature[DIRECTORY + 36] = 20),

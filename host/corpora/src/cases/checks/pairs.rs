@@ -2,12 +2,13 @@
 
 use reference::recheck::Range;
 
-use super::faults::{Fault, FLAGS, SCATTER, SIGNATURE};
+use super::faults::{Fault, FLAGS, LIMIT, SCATTER, SIGNATURE};
 use super::{full, Call};
 
 pub fn add(calls: &mut Vec<Call>) {
     with_each(calls, FLAGS, &[FLAGS]);
     with_each(calls, SCATTER, &[SCATTER, FLAGS]);
+    with_each(calls, LIMIT, &[LIMIT, FLAGS, SCATTER]);
 }
 
 /// With each fault but those left out.

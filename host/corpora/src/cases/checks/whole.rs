@@ -3,7 +3,7 @@
 use reference::inputs::{Inputs, InputsPlan, SYSTEM_SERVICE};
 use reference::launch::Launch;
 use reference::make::{CacheEntry, CachePlan};
-use reference::superblob::MOST_BYTES;
+use reference::superblob::MOST_SIDE_FILE;
 
 use super::super::{paged, SideFile};
 use super::{faults, full, striped, Call};
@@ -99,7 +99,7 @@ fn image(calls: &mut Vec<Call>, length: usize, shift: u8) {
 }
 
 /// Lengths of a side file on both sides of test 1's limit.
-const SIDE_FILES: [usize; 2] = [MOST_BYTES as usize, MOST_BYTES as usize + 1];
+const SIDE_FILES: [usize; 2] = [MOST_SIDE_FILE as usize, MOST_SIDE_FILE as usize + 1];
 
 /// A whole check of one byte without side files.
 fn one_byte(name: String) -> Call {

@@ -1,13 +1,13 @@
-//! Cases for tests 10 to 18.
+//! Cases for tests 10 to 18; those of the code limit and of the code slots' number are in `limits`.
 
 use reference::make::{blob_of, put32, with32, with8, DirectoryPlan, SignaturePlan};
 use reference::random::Random;
 
-use super::super::{VERSIONS, WITH_CODE_LIMIT_64, WITH_SCATTER};
+use super::super::{VERSIONS, WITH_SCATTER};
 use super::{common, one_page, short_blob, signature_of, single, slots, Cases, EDGES, KNOWN};
 
 /// Where a signature of one blob has its directory.
-const START: usize = 20;
+pub const START: usize = 20;
 
 pub fn add(cases: &mut Cases) {
     no_directory(cases);
@@ -17,14 +17,10 @@ pub fn add(cases: &mut Cases) {
     page_shifts(cases);
     flags(cases);
     other_flags(cases);
-    code_limits_64(cases);
     scatter_offsets(cases);
     older_than_scatter(cases);
     other_scatter_offsets(cases);
-    code_limits(cases);
-    many_slots(cases);
     special_counts(cases);
-    code_counts(cases);
     slot_bounds(cases);
     no_slots(cases);
     far_slots(cases);
@@ -154,28 +150,9 @@ fn other_flags(cases: &mut Cases) {
     }
 }
 
-/// Test 15: each byte of codeLimit64, where the version has it and where it has not.
-fn code_limits_64(cases: &mut Cases) {
-    for version in [0x202FF, 0x20300, 0x203FF, 0x20400, 0x205FF, 0x20600] {
-        let plan = one_page(version, 1);
-        let good = single(&plan);
-        let first = if version < WITH_CODE_LIMIT_64 { 55 } else { 52 };
-        for at in first..66 {
-            let name = format!("version {version:#x}, byte {at} set");
-            cases.add(name, with8(&good, START + at, 1 + at as u8));
-        }
-    }
-    for version in [0x20001, 0x200FF, 0x20100, 0x20200, 0x202FF] {
-        let mut plan = one_page(version, 0);
-        plan.identifier = vec![b'i'; 30];
-        let name = format!("version {version:#x}, identifier over byte 56");
-        cases.add(name.as_str(), single(&plan));
-        cases.add(name + ", zeros there", with32(&single(&plan), START + 56, 0));
-    }
-}
-
-/// Test 35: each byte of scatterOffset and its neighbours, every version that has it; byte 63 set
-/// beside it, which is codeLimit64's from 0x20300 on, and a directory that ends with its head.
+/// Test 35: each byte of scatterOffset and its neighbours, every version that has it; byte 56 set
+/// beside it, which makes codeLimit64 too large from 0x20300 on, and a directory that ends with its
+/// head.
 fn scatter_offsets(cases: &mut Cases) {
     for version in VERSIONS.into_iter().filter(|version| *version >= WITH_SCATTER) {
         let plan = one_page(version, 1);
@@ -188,7 +165,7 @@ fn scatter_offsets(cases: &mut Cases) {
             let name = format!("version {version:#x}, scatterOffset {offset:#x}");
             let scattered = with32(&good, START + 44, offset);
             cases.add(name.as_str(), scattered.clone());
-            cases.add(name.clone() + ", byte 63 set", with8(&scattered, START + 63, 1));
+            cases.add(name.clone() + ", byte 56 set", with8(&scattered, START + 56, 1));
             let cut = cut_directory(&scattered[START..], plan.head());
             cases.add(name + ", cut to its head", cut);
         }
@@ -228,75 +205,6 @@ fn other_scatter_offsets(cases: &mut Cases) {
     }
 }
 
-/// Test 16: the slots that each code limit wants, one less and one more.
-fn code_limits(cases: &mut Cases) {
-    let limits = [0u32, 1, 4095, 4096, 4097, 8192, 8193, 16383, 16384, 16385, 32769];
-    for shift in [12u8, 14, 0] {
-        for limit in limits {
-            for change in [0, 1, -1] {
-                let count = i64::from(wanted(limit, shift)) + change;
-                if count >= 0 {
-                    add_limit(cases, &with_limit(limit, shift, count as usize));
-                }
-            }
-        }
-    }
-    for limit in [0x7FFFFFFF, 0x80000000, 0xFFFFF000, 0xFFFFFFFF] {
-        for count in [0, 1, 2] {
-            add_limit(cases, &with_limit(limit, 0, count));
-            add_limit(cases, &with_limit(limit, 12, count));
-        }
-    }
-}
-
-/// A directory named by its code limit, page size and code slots.
-fn add_limit(cases: &mut Cases, plan: &DirectoryPlan) {
-    let (limit, shift, count) = (plan.code_limit, plan.page_shift, plan.code.len());
-    let name = format!("code limit {limit}, pageSize {shift}, {count} code slots");
-    cases.add(name, single(plan));
-}
-
-fn wanted(limit: u32, shift: u8) -> u32 {
-    match shift {
-        0 => u32::from(limit > 0),
-        _ => limit.div_ceil(1 << shift),
-    }
-}
-
-fn with_limit(limit: u32, shift: u8, count: usize) -> DirectoryPlan {
-    let mut plan = one_page(0x20100, 1);
-    plan.code_limit = limit;
-    plan.page_shift = shift;
-    plan.code = slots(0xC0, count);
-    plan
-}
-
-/// Test 16 at 65,536 code slots. The slots are one run of equal bytes.
-fn many_slots(cases: &mut Cases) {
-    let most = 65_536u32;
-    for (shift, limit, count) in [
-        (12, most << 12, most),
-        (12, (most << 12) + 1, most + 1),
-        (12, (most << 12) - 4095, most),
-        (12, (most << 12) - 4096, most - 1),
-        (14, most << 14, most),
-        (14, (most << 14) + 1, most + 1),
-    ] {
-        let mut plan = with_limit(limit, shift, 0);
-        plan.code = vec![[0xC7; 32]; count as usize];
-        add_limit(cases, &plan);
-    }
-    // Right by the arithmetic, over the limit, and without the slots.
-    for (shift, limit) in
-        [(12, (most << 12) + 1), (12, 0xFFFFFFFF), (14, 0xFFFFFFFF), (12, 0x80000000)]
-    {
-        let mut plan = with_limit(limit, shift, 1);
-        plan.code_count = Some(wanted(limit, shift));
-        let name = format!("code limit {limit}, pageSize {shift}, right count, no slots");
-        cases.add(name, single(&plan));
-    }
-}
-
 /// Test 16: special slots, with room for them.
 fn special_counts(cases: &mut Cases) {
     for version in [0x20001, 0x20600] {
@@ -309,17 +217,6 @@ fn special_counts(cases: &mut Cases) {
     for count in (9..=13).chain([256, 257, 0x0B000000]).chain(EDGES) {
         let name = format!("eleven special slots, count {count}");
         cases.add(name, with32(&good, START + 24, count));
-    }
-}
-
-/// Test 16: the count's field alone.
-fn code_counts(cases: &mut Cases) {
-    for plan in [one_page(0x20400, 1), with_limit(8193, 12, 3), with_limit(0, 12, 0)] {
-        let good = single(&plan);
-        for count in (0..=4).chain([257, 65536, 65537, 0x01000000, 0xFFFFFFFF]) {
-            let name = format!("code limit {}, code slot count {count}", plan.code_limit);
-            cases.add(name, with32(&good, START + 28, count));
-        }
     }
 }
 

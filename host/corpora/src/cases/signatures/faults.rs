@@ -1,6 +1,7 @@
 //! Faults in a good signature: one for each of tests 1 to 18.
 
-use reference::make::{put32, BlobPlan, SignaturePlan};
+use reference::directory::MOST_CODE_LIMIT;
+use reference::make::{put32, put64, BlobPlan, SignaturePlan};
 
 /// Tests 1 to 18, in the order in which they are made.
 pub const TESTS: [u32; 20] =
@@ -50,7 +51,7 @@ impl Subject {
             13 => bytes[directory + 37] = 1,
             14 => bytes[directory + 39] = 13,
             46 => put32(bytes, directory + 12, 0x33F03),
-            15 => bytes[directory + 63] = 1,
+            15 => put64(bytes, directory + 56, MOST_CODE_LIMIT + 1),
             35 => bytes[directory + 47] = 1,
             16 => put32(bytes, directory + 24, 12),
             17 => put32(bytes, directory + 16, self.head + 32 * self.special - 1),

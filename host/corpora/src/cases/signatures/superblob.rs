@@ -1,13 +1,13 @@
 //! Cases for tests 1 to 9.
 
 use reference::make::{blob_of, put32, with32, SignaturePlan};
-use reference::superblob::{magic_of, MOST_BYTES};
+use reference::superblob::magic_of;
 
 use super::{common, one_page, several, short_blob, signature_of, single, Cases, EDGES, KNOWN};
 
 pub fn add(cases: &mut Cases) {
     lengths(cases);
-    longest(cases);
+    long(cases);
     magics(cases);
     counts(cases);
     superblob_lengths(cases);
@@ -44,9 +44,10 @@ fn lengths(cases: &mut Cases) {
     }
 }
 
-/// Test 1, upper side: padding up to the limit, and a blob that fills it.
-fn longest(cases: &mut Cases) {
-    for length in [MOST_BYTES as usize, MOST_BYTES as usize + 1] {
+/// Signatures of document 01's longest length and one byte more, which test 1 lets pass: padding up
+/// to there, and a blob that fills it. Test 1's own limit is above what a program can hold.
+fn long(cases: &mut Cases) {
+    for length in [4_194_304, 4_194_305] {
         let mut padded = single(&one_page(0x20001, 1));
         padded.resize(length, 0x55);
         cases.add(format!("padded to {length}"), padded.clone());

@@ -1,6 +1,8 @@
 //! `trewizlow check`.
 
-use trewizlow::{check, read, Launch, Verdict, MOST_CACHE_BYTES, MOST_SIGNATURE_BYTES};
+use trewizlow::{
+    check, read, Launch, Verdict, MOST_CACHE_BYTES, MOST_SIDE_FILE_BYTES, MOST_SIGNATURE_BYTES,
+};
 
 use crate::arguments::{Arguments, Names};
 use crate::command::Command;
@@ -81,7 +83,7 @@ impl Inputs {
     /// none where the signature or a side file's length is refused whatever the image is.
     fn lend(self) -> Result<Files, String> {
         let side_file =
-            |file: Option<Opened>| file.map(|f| f.read(MOST_SIGNATURE_BYTES)).transpose();
+            |file: Option<Opened>| file.map(|f| f.read(MOST_SIDE_FILE_BYTES)).transpose();
         let signature = self.signature.read(MOST_SIGNATURE_BYTES)?;
         let cache = self.cache.read(MOST_CACHE_BYTES)?;
         let (info, resources) = (side_file(self.info)?, side_file(self.resources)?);

@@ -6,9 +6,19 @@ use trewizlow::find;
 /// The slot type of the directory that is checked.
 const CODE_DIRECTORY: u32 = 0;
 
-/// The big-endian number at this byte of the signature's directory; none where the directory is
-/// not found or ends before.
+/// The bytes from here on of the signature's directory; none where the directory is not found or
+/// ends before.
+fn bytes<const N: usize>(signature: &[u8], at: usize) -> Option<[u8; N]> {
+    let directory = find(signature, CODE_DIRECTORY).part(signature);
+    directory.get(at..at + N)?.try_into().ok()
+}
+
+/// The big-endian number of 32 bits at this byte of the directory.
 pub fn field(signature: &[u8], at: usize) -> Option<u32> {
-    let bytes = find(signature, CODE_DIRECTORY).part(signature).get(at..at + 4)?;
-    Some(u32::from_be_bytes(bytes.try_into().ok()?))
+    bytes(signature, at).map(u32::from_be_bytes)
+}
+
+/// The big-endian number of 64 bits at this byte of the directory.
+pub fn field64(signature: &[u8], at: usize) -> Option<u64> {
+    bytes(signature, at).map(u64::from_be_bytes)
 }

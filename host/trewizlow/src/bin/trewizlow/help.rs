@@ -105,14 +105,16 @@ pub const SHOW: &str = "\
 usage: trewizlow show [--all-slots] [--json] SIGNATURE
 
 Prints the signature's blobs, and the directory's fields, slots and cdhash, its flags by
-Apple's names. A refusal is printed in the place of what cannot be read; flags that are
-not allowed, and a scatterOffset that is not 0, are named on standard error. A Mach-O file
-is refused: its signature has to be cut out first, for which README.md has the recipe.
+Apple's names, and which field the code limit is. A refusal is printed in the place of
+what cannot be read; flags that are not allowed, a codeLimit64 that is too large, and a
+scatterOffset that is not 0 are named on standard error. A Mach-O file is refused: its
+signature has to be cut out first, for which README.md has the recipe.
 
   --all-slots   print every code slot, not the first 16 alone
   --json        print an object: number, place, well_formed, message, blobs,
-                flags_not_allowed and scatter_offset where there are any, and the
-                directory with every code slot; error where the status is 2
+                flags_not_allowed, code_limit64 and scatter_offset where they are
+                refused, and the directory with every code slot; error where the
+                status is 2
 
 exit status: 0 well formed, 1 refused, 2 usage or input error
 ";

@@ -1,5 +1,5 @@
 -- Each field is what `be32`, `be64` or `byte` reads at its offset.
-use Rattle.layout.specs.CodeDirectory.{version, flags, hashOffset, identOffset, nSpecialSlots, nCodeSlots, codeLimit, hashSize, hashType, platform, pageSize, scatterOffset, codeLimit64}
+use Rattle.layout.specs.CodeDirectory.{version, flags, hashOffset, identOffset, nSpecialSlots, nCodeSlots, codeLimit32, hashSize, hashType, platform, pageSize, scatterOffset, codeLimit64}
 use borrow.Author.Needs.{needs}
 use Rattle.layout.proofs.directory.CodeDirectory.read.Statement.{statement}
 use Rattle.layout.proofs.directory.CodeDirectory.read.Tie as tie
@@ -44,7 +44,7 @@ be64-requires : tie.Need-be64-requires
 be64-requires c κs = search needs
 
 returns : tie.Need-returns
-unfolding version flags hashOffset identOffset nSpecialSlots nCodeSlots codeLimit hashSize hashType platform pageSize scatterOffset codeLimit64
+unfolding version flags hashOffset identOffset nSpecialSlots nCodeSlots codeLimit32 hashSize hashType platform pageSize scatterOffset codeLimit64
 returns c = search needs
 
 pub read-spec : {M : Type 1} → statement M

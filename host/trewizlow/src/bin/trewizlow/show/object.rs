@@ -3,7 +3,7 @@
 use super::{hex, Shown};
 use crate::flags;
 use crate::json::{answer, array, object, string};
-use crate::scatter;
+use crate::{limit, scatter};
 
 const WELL_FORMED: &str = "the signature is well formed: all of its tests pass";
 
@@ -16,6 +16,9 @@ pub fn text(shown: &Shown) -> String {
     let not_allowed = flags::not_allowed(shown.signature);
     if !not_allowed.is_empty() {
         members.push(("flags_not_allowed", strings(&not_allowed)));
+    }
+    if let Some(limit) = limit::too_large(shown.signature) {
+        members.push(("code_limit64", limit.to_string()));
     }
     if let Some(offset) = scatter::offset(shown.signature) {
         members.push(("scatter_offset", offset.to_string()));
@@ -59,6 +62,7 @@ fn directory(shown: &Shown) -> String {
         ("platform", d.platform.to_string()),
         ("page_shift", d.page_shift.to_string()),
         ("code_limit", d.code_limit.to_string()),
+        ("code_limit_field", string(limit::name(shown.signature))),
         ("page_size", d.page_size.to_string()),
         (
             "special_slots",

@@ -4,7 +4,7 @@ use std::fmt::Write;
 
 use super::names::covered;
 use super::{hex, Shown};
-use crate::flags;
+use crate::{flags, limit};
 
 /// Code slots that are printed where not all are asked for.
 const FEW: usize = 16;
@@ -43,7 +43,7 @@ fn fields(out: &mut String, shown: &Shown) {
         ("flags", flags::text(d.flags)),
         ("platform", d.platform.to_string()),
         ("hash type", format!("{} (SHA-256), {} bytes a slot", d.hash_type, d.hash_size)),
-        ("code limit", format!("{} bytes", d.code_limit)),
+        ("code limit", format!("{} bytes ({})", d.code_limit, limit::name(shown.signature))),
         ("page size", format!("{} bytes (pageSize {})", d.page_size, d.page_shift)),
         ("code slots", format!("{} from byte {} of the directory", d.code_slots, d.hash_offset)),
         ("special slots", d.special_slots.to_string()),
