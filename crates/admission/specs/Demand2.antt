@@ -6,6 +6,7 @@ use mathlib.Core.List.{List, _++_}
 use mathlib.Core.Logic.{_⊎_, _↔_}
 use mathlib.Core.Path.{_≡_}
 use lib.ListN.{length, getD}
+use Rattle.endian.specs.Numbers.{AllBytes}
 use Rattle.refusals.specs.declared.Answer.{Answer}
 use Rattle.refusals.specs.Refusals.{Decides, Passes, refuse, OverPlainly, AmongPlainly}
 use Rattle.layout.specs.CodeDirectory.{nCodeSlots}
@@ -13,7 +14,7 @@ use Rattle.layout.specs.TrustCache.{cacheHead, entrySize, entryCount, hashAt}
 use Rattle.directory.specs.Rows.{cdhash, codeSlot, codeSlots}
 use Rattle.pages.specs.Pages.{PagePower, pageCount, pageOf}
 use Rattle.pages.specs.Marks.{slotAt, badRows, agrees, AgreesExactly}
-use Rattle.trustcache.specs.Bytes.{AllBytes, HashLess}
+use Rattle.trustcache.specs.Bytes.{HashLess}
 use Rattle.trustcache.specs.Rows.{asNumber, hashNumber}
 use Rattle.trustcache.specs.Launch.{SelfPlainly, ParentPlainly}
 use Rattle.admission.specs.declared.Verdict.{Verdict}

@@ -16,7 +16,8 @@ use Rattle.layout.specs.CodeDirectory.{identOffset, pageSize, scatterOffset, co
 use Rattle.superblob.specs.Rows.{rows}
 use Rattle.superblob.proofs.Formed.{formed-exactly}
 use Rattle.directory.specs.Head.{scatterVersion, limit64Version}
-use Rattle.directory.specs.Rows.{mostCodeLimit, directory, zeroAt, identLength, fieldRows, slotRows, blobRows, directoryRows, signatureRows}
+use Rattle.directory.specs.Pages.{mostCodeLimit}
+use Rattle.directory.specs.Rows.{directory, zeroAt, identLength, fieldRows, slotRows, blobRows, directoryRows, signatureRows}
 use Rattle.directory.specs.Formed.{DirectoryFormed, DirectoryExactly, SignatureExactly}
 use Rattle.directory.proofs.Flags.{flags-plainly}
 use Rattle.directory.proofs.Since.{since-plainly}

@@ -10,9 +10,9 @@ use Rattle.layout.specs.CodeDirectory.{directoryType, sha256Type, allowedFlags,
 use Rattle.superblob.specs.Rows.{mostSide, position}
 use Rattle.superblob.specs.Formed.{Formed}
 use Rattle.directory.specs.Head.{firstVersion, lastVersion, scatterVersion, limit64Version, headOf}
-use Rattle.directory.specs.Pages.{pages}
+use Rattle.directory.specs.Pages.{mostCodeLimit, pages}
 use Rattle.directory.specs.Flags.{BitsWithin}
-use Rattle.directory.specs.Rows.{mostPages, mostSpecialSlots, mostCodeLimit, directory, blobRows, signatureRows}
+use Rattle.directory.specs.Rows.{mostPages, mostSpecialSlots, directory, blobRows, signatureRows}
 
 -- every slot lies between the head's end and the directory's
 pub record SlotsInside (d : List ℕ) : Type 0 where

@@ -14,7 +14,7 @@ use Rattle.layout.specs.CodeDirectory.{directoryType, sha256Type, allowedFlags,
 use Rattle.layout.specs.TrustCache.{cdhashLength}
 use Rattle.superblob.specs.Rows.{rows, position, blobOf}
 use Rattle.directory.specs.Head.{firstVersion, lastVersion, scatterVersion, limit64Version, headOf, since}
-use Rattle.directory.specs.Pages.{pages}
+use Rattle.directory.specs.Pages.{mostCodeLimit, pages}
 
 -- LIMITS
 
@@ -24,10 +24,6 @@ mostPages = 1048576
 
 abbrev pub mostSpecialSlots : ℕ
 mostSpecialSlots = 11
-
--- bytes of code; codeLimit has 32 bits, so that only codeLimit64 can be above
-abbrev pub mostCodeLimit : ℕ
-mostCodeLimit = 17179869184
 
 -- THE DIRECTORY: the blob at the position of type 0
 abbrev pub directory : List ℕ → List ℕ

@@ -1,4 +1,4 @@
--- A byte past the end, and one more byte of a number: what the readers share; and when a number is 0.
+-- A byte past the end, and one more byte of a number: what the readers share; how large a number is, and when it is 0.
 use Prim.Native.Nat.{ℕ, zero, suc, _+_, _-_, _*_, _^_, _<_, _≤_}
 use mathlib.Core.Bool.{Bool, true, false}
 use mathlib.Core.List.{List}
@@ -10,7 +10,7 @@ use native.Mathlib.Omega.{arith}
 use lib.Dec.{ltb}
 use lib.ListN.{length, getD, List·getD-eq-default}
 use borrow.Author.Tests.{ltb-true, ltb-false}
-use Rattle.endian.specs.Numbers.{big, little}
+use Rattle.endian.specs.Numbers.{AllBytes, big, little}
 
 -- a byte past the end counts as 0
 pub past : (s : List ℕ) (at : ℕ) → length s ≤ at → 0 ≡ getD s at 0
@@ -48,6 +48,12 @@ little-more s at w i n b h p q =
     let e : at + (w - (i + 1)) ≡ at + (w - 1 - i) = omega arith in
     let f : at + (w - 1 - i) + 1 ≡ at + (w - i) = omega arith in
     rw (e, add-one i, f) (omega arith)
+
+-- in a list of bytes a number of n bytes is below 256 to the n
+pub big-below : (s : List ℕ) (at : ℕ) → AllBytes s → (n : ℕ) → big n s at < 256 ^ n
+unfolding big
+big-below s at b zero = omega arith
+big-below s at b (suc n) = rw (← add-one n) (grows n (big n s at) (getD s (at + n) 0) (big-below s at b n) (b (at + n)))
 
 -- A NUMBER THAT IS 0
 

@@ -1,7 +1,11 @@
 -- Numbers in bytes, and bytes of numbers, over the width. Bytes are numbers below 256 in a list; a byte past the list's end counts as 0.
-use Prim.Native.Nat.{ℕ, zero, suc, _+_, _*_, _/_, _%_, _^_}
+use Prim.Native.Nat.{ℕ, zero, suc, _+_, _*_, _/_, _%_, _^_, _<_}
 use mathlib.Core.List.{List, [], _∷_}
 use lib.ListN.{getD}
+
+-- every element is a byte
+abbrev pub AllBytes : List ℕ → Type 0
+AllBytes s = (k : ℕ) → getD s k 0 < 256
 
 -- big-endian: the n bytes from `at`, the first the most significant
 unfoldable pub big : ℕ → List ℕ → ℕ → ℕ

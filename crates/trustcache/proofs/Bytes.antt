@@ -10,12 +10,12 @@ use lib.Dec.{ltb}
 use lib.ListN.{length, getD, take, drop, length-drop}
 use lib.Seq.{ext-getD, getD-drop, length-take-le}
 use borrow.Author.Tests.{ltb-true, ltb-false}
-use Rattle.endian.specs.Numbers.{big}
+use Rattle.endian.specs.Numbers.{AllBytes, big}
 use Rattle.endian.proofs.Numbers.{take-small}
 use Rattle.endian.proofs.Numbers.{big-same}
 use Rattle.layout.specs.TrustCache.{cacheHead, entrySize, cdhashLength, entryCount, hashAt}
 use Rattle.trustcache.specs.Rows.{asNumber, hashNumber}
-use Rattle.trustcache.specs.Bytes.{AllBytes, FirstLess, HashLess, HashEqual}
+use Rattle.trustcache.specs.Bytes.{FirstLess, HashLess, HashEqual}
 
 -- one byte more
 pub big-step : (n : ℕ) (x : List ℕ) → big (suc n) x 0 ≡ big n x 0 * 256 + getD x n 0

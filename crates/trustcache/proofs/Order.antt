@@ -9,12 +9,11 @@ use native.Mathlib.Omega.{arith}
 use lib.Dec.{ltb, eqb}
 use lib.ListN.{getD}
 use borrow.Author.Tests.{ltb-true, ltb-false, eqb-true, eqb-false}
-use Rattle.endian.specs.Numbers.{big}
+use Rattle.endian.specs.Numbers.{AllBytes, big}
 use Rattle.layout.specs.TrustCache.{cdhashLength, hashAt}
 use Rattle.refusals.specs.Refusals.{holds}
 use Rattle.refusals.proofs.Conditions.{says, pick-yes, pick-no}
 use Rattle.trustcache.specs.Rows.{asNumber, hashNumber, order, notAbove}
-use Rattle.trustcache.specs.Bytes.{AllBytes}
 use Rattle.trustcache.proofs.Bytes.{big-step, less-number}
 
 order-below : (x y : ℕ) → x < y → 0 ≡ order x y

@@ -4,12 +4,9 @@ use mathlib.Core.List.{List}
 use mathlib.Core.Logic.{_↔_}
 use mathlib.Core.Path.{_≡_}
 use lib.ListN.{length, getD}
+use Rattle.endian.specs.Numbers.{AllBytes}
 use Rattle.layout.specs.TrustCache.{cacheHead, entrySize, cdhashLength, entryCount, hashAt}
 use Rattle.trustcache.specs.Rows.{asNumber, hashNumber}
-
--- every element is a byte
-abbrev pub AllBytes : List ℕ → Type 0
-AllBytes s = (k : ℕ) → getD s k 0 < 256
 
 -- of the first n bytes of x and of y, byte k is the first that differs, and x's is smaller
 pub record FirstLess (n : ℕ) (x y : List ℕ) (k : ℕ) : Type 0 where

@@ -121,6 +121,7 @@ fn bytes_about_scatter_offset() {
         let name = format!("version {version:#x}, scatterOffset 0x80000000");
         let with_limit = if version < 0x20300 { "35 0" } else { "15 0" };
         assert_eq!(answered(lines, &format!("{name}, byte 56 set")), with_limit, "{name}");
+        assert_eq!(answered(lines, &format!("{name}, byte 63 set")), "35 0", "{name}");
         assert_eq!(answered(lines, &format!("{name}, cut to its head")), "35 0", "{name}");
     }
     for (version, what) in OLDER.into_iter().flat_map(|v| [(v, "identifier"), (v, "a code slot")]) {
@@ -311,6 +312,6 @@ fn number_of_cases() {
     let counts: Vec<(&str, usize)> =
         made.iter().map(|made| (made.name, made.lines.len())).collect();
     let wanted =
-        [("signatures", 3278), ("readers", 185), ("slots", 682), ("caches", 435), ("checks", 1850)];
+        [("signatures", 3300), ("readers", 185), ("slots", 682), ("caches", 435), ("checks", 1850)];
     assert_eq!(counts, wanted);
 }

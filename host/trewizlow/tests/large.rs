@@ -16,22 +16,27 @@ use reference::make::DirectoryPlan;
 use reference::sha256::digest;
 use scratch::{check, ended, limited, recheck, sample, tool, Run, Scratch, TOOL};
 
-const MIB: u32 = 1 << 20;
+const MIB: u64 = 1 << 20;
 const HUGE: u64 = 64 << 30;
 /// Hashing as much takes between one second and some.
-const SLOW: u32 = 640 * MIB;
+const SLOW: u64 = 640 * MIB;
 /// What is answered at once comes within this time; hashing four gigabytes takes longer.
 const AT_ONCE: Duration = Duration::from_secs(8);
 /// KiB of memory that the tool may have of its own.
 const LITTLE: &str = "65536";
 
 /// The signature and the cache of an image of zeros, which is not built.
-fn zeros(code_limit: u32, page_shift: u8) -> Inputs {
+fn zeros(limit: u64, page_shift: u8) -> Inputs {
     let page = vec![0; if page_shift == 0 { 0 } else { 1 << page_shift }];
-    let slots = if page_shift == 0 { 1 } else { code_limit.div_ceil(1 << page_shift) };
+    let slots = if page_shift == 0 { 1 } else { limit.div_ceil(1 << page_shift) };
     let mut plan = InputsPlan::new(0x20400, Vec::new(), page_shift);
-    plan.directory =
-        DirectoryPlan { code_limit, code: vec![digest(&page); slots as usize], ..plan.directory };
+    let code_limit64 = if limit > u32::MAX.into() { limit } else { 0 };
+    plan.directory = DirectoryPlan {
+        code_limit: u32::try_from(limit).unwrap_or(u32::MAX),
+        code_limit64,
+        code: vec![digest(&page); slots as usize],
+        ..plan.directory
+    };
     plan.build()
 }
 
@@ -45,12 +50,18 @@ fn run_with_little(list: &[&str]) -> Run {
     done
 }
 
-/// The cache refuses four gigabytes before a byte of them is read, and a cache that is missing
-/// is told before that.
+/// The cache refuses four gigabytes, and sixteen, before a byte of them is read, and a cache that
+/// is missing is told before that.
 #[test]
 fn small_files_decide_first() {
+    for limit in [u32::MAX.into(), 16 << 30] {
+        decide_first(limit);
+    }
+}
+
+fn decide_first(limit: u64) {
     let scratch = Scratch::new("decide");
-    let inputs = zeros(u32::MAX, 0);
+    let inputs = zeros(limit, 0);
     let signature = scratch.file("signature", &inputs.signature);
     let image = scratch.sparse("image", HUGE);
     let empty = scratch.file("cache", &reference::make::CachePlan::new(Vec::new()).bytes());
@@ -85,6 +96,26 @@ fn images_longer_than_the_code_limit() {
     drop(pipe);
 }
 
+/// A recheck of two bytes on both sides of the fourth gigabyte's end, and one that ends above the
+/// code limit.
+#[test]
+fn rechecks_across_4_gib() {
+    let scratch = Scratch::new("across");
+    let inputs = zeros((4 << 30) + 16_384, 14);
+    let signature = scratch.file("signature", &inputs.signature);
+    let mut old = vec![0; inputs.pages];
+    (old[262_143], old[262_144]) = (1, 1);
+    let marks = scratch.file("marks", &old);
+    let pages = scratch.file("pages", &[0; 32_768]);
+    let (status, out, err) =
+        run_with_little(&recheck(&signature, ["4294967295", "2"], &pages, &marks));
+    assert!(status == 0 && out.starts_with("0 0 pages agree"), "{out} {err}");
+    assert!(scratch.read("marks").iter().all(|mark| *mark == 0));
+    let list = recheck(&signature, ["4294983680", "1"], &pages, &marks);
+    let (status, out, err) = run_with_little(&list);
+    assert!(status == 1 && out.starts_with("32 0 refused: "), "{out} {err}");
+}
+
 /// Runs the tool, which has mapped the file and now hashes it for a second and more.
 fn mapping(list: &[&str], path: &str) -> Child {
     let mut child = tool(list).stdout(Stdio::piped()).stderr(Stdio::piped()).spawn().unwrap();
@@ -114,7 +145,7 @@ fn interrupted_runs() {
     let inputs = zeros(SLOW, 14);
     let signature = scratch.file("signature", &inputs.signature);
     let cache = scratch.file("cache", &inputs.cache);
-    let image = scratch.sparse("image", SLOW.into());
+    let image = scratch.sparse("image", SLOW);
     let marks = scratch.path("marks");
     let mut list = check(&signature, &image, &cache);
     list.extend(["--marks", &marks]);
@@ -139,11 +170,11 @@ fn files_that_are_cut() {
     let marks = scratch.file("marks", &before);
     let sentence = "a file changed or could not be read while it was checked";
     let said = format!("trewizlow: {sentence}\n");
-    let image = scratch.sparse("image", SLOW.into());
+    let image = scratch.sparse("image", SLOW);
     let mut list = check(&signature, &image, &cache);
     list.extend(["--marks", &marks]);
     assert_eq!(cut_and_end(&list, &image), (2, "".into(), said.clone()));
-    let image = scratch.sparse("image", SLOW.into());
+    let image = scratch.sparse("image", SLOW);
     let length = SLOW.to_string();
     let mut list = recheck(&signature, ["0", &length], &image, &marks);
     list.push("--json");
@@ -160,7 +191,7 @@ fn an_input_in_the_place_of_the_marks() {
     let scratch = Scratch::new("moved");
     let inputs = zeros(SLOW, 14);
     let signature = scratch.file("signature", &inputs.signature);
-    let pages = scratch.sparse("pages", SLOW.into());
+    let pages = scratch.sparse("pages", SLOW);
     let marks = scratch.file("marks", &vec![1; inputs.pages]);
     let length = SLOW.to_string();
     let list = recheck(&signature, ["0", &length], &pages, &marks);
@@ -199,7 +230,7 @@ fn progress_of_a_check() {
     let inputs = zeros(SLOW, 14);
     let signature = scratch.file("signature", &inputs.signature);
     let cache = scratch.file("cache", &inputs.cache);
-    let image = scratch.sparse("image", SLOW.into());
+    let image = scratch.sparse("image", SLOW);
     let list = check(&signature, &image, &cache);
     let quiet = tool(&list).stdout(Stdio::null()).stderr(Stdio::piped()).spawn().unwrap();
     let text = shown(&list, || ());
@@ -214,7 +245,7 @@ fn progress_of_a_recheck() {
     let inputs = zeros(SLOW, 14);
     let signature = scratch.file("signature", &inputs.signature);
     let (pages, marks) =
-        (scratch.sparse("pages", SLOW.into()), scratch.file("marks", &vec![1; inputs.pages]));
+        (scratch.sparse("pages", SLOW), scratch.file("marks", &vec![1; inputs.pages]));
     let length = SLOW.to_string();
     let text = shown(&recheck(&signature, ["0", &length], &pages, &marks), || ());
     assert!(text.starts_with(&format!("{CLEAR}trewizlow: rechecking 640 MiB, ")), "{text:?}");

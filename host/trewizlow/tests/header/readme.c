@@ -11,7 +11,7 @@ bool still_agrees(const uint8_t *signature, size_t signature_len, uint64_t start
                   const uint8_t *pages, size_t pages_len, uint8_t *marks);
 
 enum { ROOM = 1 << 16, PAGE = 4096 };
-static uint8_t signature[ROOM], cache[ROOM], image[ROOM], marks[65536];
+static uint8_t signature[ROOM], cache[ROOM], image[ROOM], marks[1048576];
 
 /* How many bytes the file has; it is shorter than the room. */
 static size_t load(const char *path, uint8_t *bytes)

@@ -150,9 +150,8 @@ fn other_flags(cases: &mut Cases) {
     }
 }
 
-/// Test 35: each byte of scatterOffset and its neighbours, every version that has it; byte 56 set
-/// beside it, which makes codeLimit64 too large from 0x20300 on, and a directory that ends with its
-/// head.
+/// Test 35: each byte of scatterOffset and its neighbours, every version that has it; the first and
+/// the last byte of codeLimit64 beside it, and a directory that ends with its head.
 fn scatter_offsets(cases: &mut Cases) {
     for version in VERSIONS.into_iter().filter(|version| *version >= WITH_SCATTER) {
         let plan = one_page(version, 1);
@@ -165,7 +164,10 @@ fn scatter_offsets(cases: &mut Cases) {
             let name = format!("version {version:#x}, scatterOffset {offset:#x}");
             let scattered = with32(&good, START + 44, offset);
             cases.add(name.as_str(), scattered.clone());
-            cases.add(name.clone() + ", byte 56 set", with8(&scattered, START + 56, 1));
+            for at in [56, 63] {
+                let name = format!("{name}, byte {at} set");
+                cases.add(name, with8(&scattered, START + at, 1));
+            }
             let cut = cut_directory(&scattered[START..], plan.head());
             cases.add(name + ", cut to its head", cut);
         }
