@@ -10,7 +10,7 @@ use corpus::PLACES;
 use operations::MARKS;
 use operations::perform;
 
-// Room for a signature or a side file of one byte more than test 1 allows, and for all other fields.
+// Room for a side file of one byte more than test 1 allows, or a signature as long, and for all other fields.
 const ARENA: usize = 4456449;
 
 // Room for a file, of which one byte stays free, and for the marks of a case.

@@ -59,7 +59,7 @@ nSpecialSlots d = big 4 d 24
 unfoldable pub nCodeSlots : List ℕ → ℕ
 nCodeSlots d = big 4 d 28
 
--- codeLimit: the code limit itself is chosen of this and codeLimit64
+-- codeLimit: one of the two fields of which the code limit is chosen
 unfoldable pub codeLimit32 : List ℕ → ℕ
 codeLimit32 d = big 4 d 32
 

@@ -10,7 +10,7 @@ pub struct CodeDirectory {
     pub ident_offset: usize,
     pub special_slots: usize,
     pub code_slots: usize,
-    // `codeLimit` in Apple's header. The code limit is chosen of this and codeLimit64.
+    // `codeLimit` in Apple's header: one of the two fields of which the code limit is chosen.
     pub code_limit32: usize,
     pub hash_size: usize,
     pub hash_type: usize,

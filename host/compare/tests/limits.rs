@@ -104,11 +104,11 @@ fn most_slots() {
 /// Side files keep their limit: 4,194,305 bytes are 1.
 #[test]
 fn longest_side_files() {
-    for (above, wanted) in [(0, (23, 1)), (1, (1, 0))] {
+    for (above, info, resources) in [(0, (23, 1), (23, 3)), (1, (1, 0), (1, 0))] {
         let mut inputs = InputsPlan::new(0x20400, vec![7; 5000], 12).build();
         inputs.info = Some(vec![0; (MOST_SIDE_FILE + above) as usize]);
-        assert_eq!(check(&inputs), wanted);
+        assert_eq!(check(&inputs), info);
         (inputs.resources, inputs.info) = (inputs.info, None);
-        assert_eq!(check(&inputs).0, wanted.0);
+        assert_eq!(check(&inputs), resources);
     }
 }

@@ -1,6 +1,6 @@
 //! Damage to the plan: the directory's fields and slots, what slots cover, launch facts.
 
-use reference::directory::MOST_CODE_LIMIT;
+use reference::directory::{MOST_CODE_LIMIT, MOST_CODE_SLOTS};
 use reference::inputs::InputsPlan;
 use reference::launch::Launch;
 use reference::make::blob_of;
@@ -92,7 +92,7 @@ fn code_limit64(plan: &mut InputsPlan, random: &mut Random) {
 }
 
 /// A codeLimit64 in place of a codeLimit that says something else: the image is still accepted
-/// where the version has it.
+/// where the version has it and it is not 0.
 fn moved_limit(plan: &mut InputsPlan, random: &mut Random) {
     let directory = &mut plan.directory;
     directory.code_limit64 = directory.code_limit.into();
@@ -104,10 +104,11 @@ fn code_count(plan: &mut InputsPlan, random: &mut Random) {
     plan.directory.code_count = Some(near(right, random));
 }
 
-/// Large limits with their right count, but without the slots.
+/// Large limits with their right count, but without the slots. 32 bits have no room for one page
+/// more than there may be: that comes with codeLimit64.
 fn code_limit(plan: &mut InputsPlan, random: &mut Random) {
     let directory = &mut plan.directory;
-    let pages = 1 + random.below(1_048_575) as u32;
+    let pages = 1 + random.below(MOST_CODE_SLOTS - 1) as u32;
     match (random.below(3), directory.page_shift) {
         (0, 12) => {
             directory.code_limit = pages * 4096 - random.below(4096) as u32;

@@ -18,12 +18,12 @@ usage: bench-check [--mib N] [--reps N]
 Checks an image of N MiB (default 200, at most 256) with the proved library and with a
 straightforward Rust checker, N samples each (default 9): whole checks for each page size,
 rechecks of 1 page, 16 pages and all pages, the lookup among 65,536 cache entries, the
-sample's three pages; and at the limits a recheck of 1 page of 1,048,576, an identifier and a
-directory that fill a signature of 64 MiB. Compares answers and marks and prints both times and
-their ratio. Exit status 1 where they differ.
+sample's three pages; and at the limits a recheck of 1 page of 1,048,576, an identifier
+and a directory that fill a signature of 64 MiB. Compares answers and marks and prints
+both times and their ratio. Exit status 1 where they differ.
 ";
 
-/// The image is filled, and held in memory as a whole.
+/// The image is held in memory as a whole.
 const MOST_MIB: usize = 256;
 /// Samples of calls that take microseconds; they cost little.
 const SHORT_REPS: usize = 200;

@@ -12,17 +12,31 @@ const CHAIN_LENGTH: usize = 10;
 
 pub fn add(calls: &mut Vec<Call>) {
     let mut random = Random::new(SEED);
-    (0..CHAINS).for_each(|chain| one_chain(calls, chain, &mut random));
+    for chain in 0..CHAINS {
+        let plan = some_plan(&mut random);
+        one_chain(calls, &format!("chain {chain}"), plan, &mut random);
+    }
+    // The code limit is codeLimit64, and codeLimit says something else.
+    for limit in [0, 1, 5000, u32::MAX] {
+        let mut plan = some_plan(&mut random);
+        plan.directory.code_limit64 = plan.directory.code_limit.into();
+        plan.directory.code_limit = limit;
+        one_chain(calls, &format!("chain with codeLimit {limit}"), plan, &mut random);
+    }
 }
 
-fn one_chain(calls: &mut Vec<Call>, chain: usize, random: &mut Random) {
+fn some_plan(random: &mut Random) -> InputsPlan {
     let (length, shift) = *random.pick(&[(8193usize, 12u8), (20480, 12), (20479, 14), (4097, 0)]);
-    let mut inputs = InputsPlan::new(0x20500, striped(length), shift).build();
+    InputsPlan::new(0x20500, striped(length), shift)
+}
+
+fn one_chain(calls: &mut Vec<Call>, name: &str, plan: InputsPlan, random: &mut Random) {
+    let mut inputs = plan.build();
     let signed = inputs.image.clone();
-    inputs.image[random.below(length as u64) as usize] ^= 1;
-    calls.push(Call::whole(format!("chain {chain}, whole check"), &inputs, 4));
+    inputs.image[random.below(signed.len() as u64) as usize] ^= 1;
+    calls.push(Call::whole(format!("{name}, whole check"), &inputs, 4));
     for call in 0..CHAIN_LENGTH {
-        let name = format!("chain {chain}, call {call}");
+        let name = format!("{name}, call {call}");
         calls.push(next_in_chain(name, &mut inputs, &signed, random));
     }
 }

@@ -36,28 +36,32 @@ fn signed(version: u32, (limit, limit_64): (u32, u64), shift: u8) -> Inputs {
     plan.build()
 }
 
-/// Accepted and changed images, marks of either limit, and rechecks about both limits.
+/// Whole checks by codeLimit64, and rechecks about both limits.
 fn small_limits(calls: &mut Vec<Call>) {
     for shift in [12, 14, 0] {
         for limits in BOTH {
             let inputs = signed(0x20300, limits, shift);
             let name = format!("limits {}/{}/{shift}", limits.0, limits.1);
-            let whole = |what: &str| format!("check, {name}{what}");
-            calls.push(Call::whole(whole(""), &inputs, 7));
-            let last = limits.1 as usize - 1;
-            for (what, at) in [(", last byte changed", last), (", next byte changed", last + 1)] {
-                let mut changed = inputs.clone();
-                changed.image[at] ^= 1;
-                calls.push(Call::whole(whole(what), &changed, 7));
-            }
-            let mut short = inputs.clone();
-            short.image.truncate(last);
-            calls.push(Call::whole(whole(", byte missing"), &short, 7));
+            wholes(calls, &name, &inputs, limits.1 as usize - 1);
             let other = Inputs { pages: pages_of(limits.0, shift), ..inputs.clone() };
-            calls.push(Call::whole(whole(", codeLimit's marks"), &other, 7));
+            calls.push(Call::whole(format!("check, {name}, codeLimit's marks"), &other, 7));
             ranges(calls, &name, &inputs, limits);
         }
     }
+}
+
+/// The image, the same with its last byte below the code limit changed or the next one, and one that
+/// ends before it.
+fn wholes(calls: &mut Vec<Call>, name: &str, inputs: &Inputs, last: usize) {
+    calls.push(Call::whole(format!("check, {name}"), inputs, 7));
+    for (what, at) in [("last", last), ("next", last + 1)] {
+        let mut changed = inputs.clone();
+        changed.image[at] ^= 1;
+        calls.push(Call::whole(format!("check, {name}, {what} byte changed"), &changed, 7));
+    }
+    let mut short = inputs.clone();
+    short.image.truncate(last);
+    calls.push(Call::whole(format!("check, {name}, byte missing"), &short, 7));
 }
 
 /// The pages that codeLimit makes, or as many as a case may lend marks.
@@ -123,25 +127,33 @@ fn large_limits(calls: &mut Vec<Call>) {
     }
 }
 
-/// Rechecks about 2^32 and about the limit: 32 above it, 33 where the bytes of the one page are not
-/// lent, 0 for an empty range, and 20 for other marks.
+/// Rechecks about 2^32 and about the limit, and 20 for other marks.
 fn ranges_of_large_limits(calls: &mut Vec<Call>) {
-    for (name, limit_64) in LARGE {
+    for (limit, limit_64) in LARGE {
         let inputs = one_large_page(limit_64);
+        let name = format!("recheck, page of {limit}");
         let starts = [("2^32 - 1", u64::from(u32::MAX)), ("2^32", 1 << 32), ("limit", limit_64)];
         for (from, start) in starts {
-            for length in [0, 1, 2] {
-                for (lent, bytes) in [("none", &b""[..]), ("1 byte", b"1")] {
-                    let range = Range { start, length, bytes };
-                    let name = format!("recheck, page of {name}, {from} + {length}, {lent}");
-                    calls.push(Call::recheck(name, &inputs, &range, &[1]));
-                }
-            }
+            short_ranges(calls, &format!("{name}, {from}"), &inputs, start);
         }
         let range = Range { start: 0, length: 0, bytes: b"" };
         for marks in [&[][..], &[0, 0]] {
-            let name = format!("recheck, page of {name}, {} marks", marks.len());
-            calls.push(Call::recheck(name, &inputs, &range, marks));
+            calls.push(Call::recheck(
+                format!("{name}, {} marks", marks.len()),
+                &inputs,
+                &range,
+                marks,
+            ));
+        }
+    }
+}
+
+/// 32 above the limit, 33 where the bytes of the one page are not lent, and an empty range.
+fn short_ranges(calls: &mut Vec<Call>, name: &str, inputs: &Inputs, start: u64) {
+    for length in [0, 1, 2] {
+        for (lent, bytes) in [("none", &b""[..]), ("1 byte", b"1")] {
+            let range = Range { start, length, bytes };
+            calls.push(Call::recheck(format!("{name} + {length}, {lent}"), inputs, &range, &[1]));
         }
     }
 }

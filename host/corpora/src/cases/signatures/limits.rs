@@ -168,12 +168,12 @@ fn chosen_limits(cases: &mut Cases) {
 fn limits_by_version(cases: &mut Cases) {
     for version in [0x202FF, 0x203FF, 0x20400, 0x205FF, 0x20600] {
         for (large, limit_64) in LIMITS {
-            for (whose, shift) in [("4096 bytes", 12), ("one page", 0)] {
+            for (pages, shift) in [("4096 bytes", 12), ("one page", 0)] {
                 let mut plan = one_page(version, 1);
                 plan.page_shift = shift;
                 let mut bytes = single(&plan);
                 put64(&mut bytes, START + 56, limit_64);
-                cases.add(format!("version {version:#x}, {large} at byte 56, {whose}"), bytes);
+                cases.add(format!("version {version:#x}, {large} at byte 56, {pages}"), bytes);
             }
         }
     }

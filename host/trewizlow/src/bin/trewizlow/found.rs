@@ -13,6 +13,14 @@ fn bytes<const N: usize>(signature: &[u8], at: usize) -> Option<[u8; N]> {
     directory.get(at..at + N)?.try_into().ok()
 }
 
+/// The last version that is known.
+const LAST_VERSION: u32 = 0x20600;
+
+/// Whether the directory's version is known and this one or later.
+pub fn is_since(signature: &[u8], version: u32) -> bool {
+    field(signature, 8).is_some_and(|found| (version..=LAST_VERSION).contains(&found))
+}
+
 /// The big-endian number of 32 bits at this byte of the directory.
 pub fn field(signature: &[u8], at: usize) -> Option<u32> {
     bytes(signature, at).map(u32::from_be_bytes)

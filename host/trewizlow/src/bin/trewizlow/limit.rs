@@ -1,18 +1,15 @@
 //! The two fields of a code directory of which one is the code limit.
 
-use std::ops::RangeInclusive;
-
 use trewizlow::MOST_CODE_LIMIT;
 
-use crate::found::{field, field64};
+use crate::found::{field64, is_since};
 
-/// The versions that have codeLimit64, of those that are known.
-const WITH_CODE_LIMIT_64: RangeInclusive<u32> = 0x20300..=0x20600;
+/// The first version that has codeLimit64.
+const WITH_CODE_LIMIT_64: u32 = 0x20300;
 
 /// A codeLimit64 that is not 0; none in a directory of another version, whatever it holds there.
 fn code_limit_64(signature: &[u8]) -> Option<u64> {
-    field(signature, 8).filter(|version| WITH_CODE_LIMIT_64.contains(version))?;
-    field64(signature, 56).filter(|limit| *limit != 0)
+    field64(signature, 56).filter(|limit| *limit != 0 && is_since(signature, WITH_CODE_LIMIT_64))
 }
 
 /// The name of the field that is the code limit.
@@ -23,7 +20,7 @@ pub fn name(signature: &[u8]) -> &'static str {
     }
 }
 
-/// One that is too large.
+/// A codeLimit64 that is too large.
 pub fn too_large(signature: &[u8]) -> Option<u64> {
     code_limit_64(signature).filter(|limit| *limit > MOST_CODE_LIMIT as u64)
 }

@@ -1,16 +1,13 @@
 //! The scatterOffset of a code directory.
 
-use std::ops::RangeInclusive;
+use crate::found::{field, is_since};
 
-use crate::found::field;
-
-/// The versions that have it, of those that are known.
-const WITH_SCATTER: RangeInclusive<u32> = 0x20100..=0x20600;
+/// The first version that has it.
+const WITH_SCATTER: u32 = 0x20100;
 
 /// One that is not 0; none in a directory of another version, whatever it holds there.
 pub fn offset(signature: &[u8]) -> Option<u32> {
-    field(signature, 8).filter(|version| WITH_SCATTER.contains(version))?;
-    field(signature, 44).filter(|offset| *offset != 0)
+    field(signature, 44).filter(|offset| *offset != 0 && is_since(signature, WITH_SCATTER))
 }
 
 /// For somebody who asks what refusal 35 means.
