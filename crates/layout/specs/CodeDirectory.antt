@@ -1,9 +1,10 @@
 -- The CodeDirectory: its fields by byte, big-endian. `d` is the directory's blob; a byte past its end counts as 0.
 use Prim.Native.Nat.{ℕ, _<_}
-use mathlib.Core.List.{List}
+use mathlib.Core.List.{List, [], _∷_}
 use mathlib.Core.Path.{_≡_}
 use lib.ListN.{getD}
 use Rattle.endian.specs.Numbers.{big}
+use Rattle.refusals.specs.Ranges.{Range, range, lookup}
 use Rattle.layout.specs.declared.directory.CodeDirectory.{CodeDirectory}
 
 -- CONSTANTS OF THE LAYOUT
@@ -16,17 +17,9 @@ directoryMagic = 0xFADE0C02
 abbrev pub directoryType : ℕ
 directoryType = 0
 
--- the hash type that is taken (CS_HASHTYPE_SHA256)
-abbrev pub sha256Type : ℕ
-sha256Type = 2
-
 -- the flags that a directory may hold (CS_ALLOWED_MACHO)
 abbrev pub allowedFlags : ℕ
 allowedFlags = 0x33F02
-
--- bytes of a slot: a SHA-256 hash
-abbrev pub slotWidth : ℕ
-slotWidth = 32
 
 -- where the version ends: what a directory needs for its version to be read
 abbrev pub versionEnd : ℕ
@@ -38,6 +31,34 @@ infoSlot = 1
 
 abbrev pub resourcesSlot : ℕ
 resourcesSlot = 3
+
+-- HASH KINDS, by the number that hashType holds
+
+-- CS_HASHTYPE_SHA1, CS_HASHTYPE_SHA256, CS_HASHTYPE_SHA256_TRUNCATED, CS_HASHTYPE_SHA384
+abbrev pub sha1Type : ℕ
+sha1Type = 1
+
+abbrev pub sha256Type : ℕ
+sha256Type = 2
+
+abbrev pub truncatedType : ℕ
+truncatedType = 3
+
+abbrev pub sha384Type : ℕ
+sha384Type = 4
+
+-- bytes of a slot
+unfoldable pub slotWidths : List Range
+slotWidths =
+    range sha1Type sha1Type 20
+    ∷ range sha256Type sha256Type 32
+    ∷ range truncatedType truncatedType 20
+    ∷ range sha384Type sha384Type 48
+    ∷ []
+
+-- .. 0 for a kind that is not known
+unfoldable pub widthOf : ℕ → ℕ
+widthOf kind = lookup slotWidths 0 kind
 
 -- THE FIELDS
 
@@ -80,6 +101,10 @@ scatterOffset d = big 4 d 44
 
 unfoldable pub codeLimit64 : List ℕ → ℕ
 codeLimit64 d = big 8 d 56
+
+-- bytes of each of its slots, by its kind
+unfoldable pub slotWidth : List ℕ → ℕ
+slotWidth d = widthOf (hashType d)
 
 -- what the constructor reads
 pub record DirectoryRead (d : List ℕ) (h : CodeDirectory) : Type 0 where

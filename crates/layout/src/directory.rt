@@ -1,6 +1,8 @@
 // The CodeDirectory, a blob of the signature, big-endian: a head whose size follows from the version, the identifier,
 // and the slots, each the hash of one thing: the special slots end at hashOffset, and the code slots start there.
-ghost use Rattle.layout.specs.CodeDirectory.{DirectoryRead};
+ghost use mathlib.Core.Path.{_≡_};
+ghost use Prim.Native.Nat.{_*_, _<_, _≤_, _^_};
+ghost use Rattle.layout.specs.CodeDirectory.{DirectoryRead, widthOf};
 
 // The fields of the head that document 01 lists, in their order. Offsets count from the directory's start.
 pub struct CodeDirectory {
@@ -29,8 +31,23 @@ impl CodeDirectory {
     // The slot type of the directory that is checked (CSSLOT_CODEDIRECTORY).
     pub const TYPE: u32 = 0;
 
-    // The hash type that is taken (CS_HASHTYPE_SHA256).
+    // The hash kinds, by the number that hashType holds (CS_HASHTYPE_SHA1, .._SHA256, .._SHA256_TRUNCATED, .._SHA384).
+    pub const SHA1: usize = 1;
+
     pub const SHA256: usize = 2;
+
+    pub const SHA256_TRUNCATED: usize = 3;
+
+    pub const SHA384: usize = 4;
+
+    // Bytes of a slot of each kind.
+    pub const SHA1_SLOT: usize = 20;
+
+    pub const SHA256_SLOT: usize = 32;
+
+    pub const SHA256_TRUNCATED_SLOT: usize = 20;
+
+    pub const SHA384_SLOT: usize = 48;
 
     // The flags that a directory may hold (CS_ALLOWED_MACHO): ADHOC, HARD, KILL, CHECK_EXPIRATION, RESTRICT, ENFORCEMENT, REQUIRE_LV,
     // RUNTIME and LINKER_SIGNED.
@@ -52,11 +69,29 @@ impl CodeDirectory {
 
     pub const HEAD_LINKAGE: usize = 108;
 
-    // Bytes of a slot: a SHA-256 hash.
-    pub const SLOT: usize = 32;
-
     // Bytes that hold the version.
     pub const VERSION_END: usize = 12;
+
+    // Bytes of a slot, by the hash kind; 0 for a kind that is not known.
+    pub fn slot_width(kind: usize) -> usize
+        ensures { λ r. ⌜ (r ≡ widthOf kind) × (r ≤ 48) ⌝ }
+    {
+        match kind {
+            CodeDirectory::SHA1 => CodeDirectory::SHA1_SLOT,
+            CodeDirectory::SHA256 => CodeDirectory::SHA256_SLOT,
+            CodeDirectory::SHA256_TRUNCATED => CodeDirectory::SHA256_TRUNCATED_SLOT,
+            CodeDirectory::SHA384 => CodeDirectory::SHA384_SLOT,
+            _ => 0,
+        }
+    }
+
+    // Bytes of n slots. A product of two variables is one unknown to the prover's arithmetic, so it is taken here alone.
+    pub fn slot_bytes(kind: usize, n: usize) -> usize
+        requires { ⌜ widthOf kind * n < 2 ^ 64 ⌝ }
+        ensures { λ r. ⌜ r ≡ widthOf kind * n ⌝ }
+    {
+        CodeDirectory::slot_width(kind) * n
+    }
 
     // The directory whose blob is d.
     pub fn read(d: &[u8]) -> CodeDirectory

@@ -1,7 +1,7 @@
 -- Laws of a table by ranges. What is asked is all of orders of numbers, so that one `omega arith` answers it.
 use Prim.Native.Nat.{ℕ, zero, suc, _≤_}
 use mathlib.Core.List.{List, [], _∷_}
-use mathlib.Core.Bool.{Bool, true, false, _&&_}
+use mathlib.Core.Bool.{Bool, true, false, cond, _&&_}
 use mathlib.Core.Path.{_≡_, refl}
 use lib.Dec.{leb}
 use borrow.Author.Tests.{le-leb, leb-true}
@@ -38,3 +38,18 @@ pub misses : (rs : List Range) (other t : ℕ) → Misses rs t → other ≡ loo
 unfolding lookup
 misses [] other t h = refl
 misses (range lo hi v ∷ rs) other t h = rw (missed (leb lo t) (leb t hi) refl refl (h .0)) (misses rs other t (h .1))
+
+-- each value is at most a number
+abbrev pub AtMost : ℕ → List Range → Type 0
+AtMost most [] = Unit
+AtMost most (range lo hi v ∷ rs) = (v ≤ most) × AtMost most rs
+
+either : (b : Bool) (x y most : ℕ) → x ≤ most → y ≤ most → cond b x y ≤ most
+either true x y most h k = h
+either false x y most h k = k
+
+-- and so is what is looked up
+pub lookup-most : (most : ℕ) (rs : List Range) (other t : ℕ) → AtMost most rs → other ≤ most → lookup rs other t ≤ most
+unfolding lookup
+lookup-most most [] other t h o = o
+lookup-most most (range lo hi v ∷ rs) other t h o = either (leb lo t && leb t hi) v (lookup rs other t) most (h .0) (lookup-most most rs other t (h .1) o)
