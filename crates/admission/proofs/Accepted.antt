@@ -11,7 +11,8 @@ use Rattle.layout.specs.CodeDirectory.{directoryType, nCodeSlots}
 use Rattle.superblob.specs.Rows.{mostSide, position, blobOf}
 use Rattle.superblob.proofs.Lookup.{has-type, has-position, blob-at}
 use Rattle.directory.specs.Pages.{codeLimit}
-use Rattle.directory.specs.Rows.{mostSpecialSlots, directory, cdhash, signatureRows}
+use Rattle.directory.specs.Rows.{mostSpecialSlots, directory, signatureRows}
+use Rattle.cdhash.specs.Hash.{cdhash}
 use Rattle.directory.specs.Formed.{DirectoryFormed, SignatureFormed}
 use Rattle.directory.proofs.Formed.{signature-exactly}
 use Rattle.slots.specs.Slots.{specialRows}
@@ -21,7 +22,7 @@ use Rattle.trustcache.specs.Rows.{asNumber}
 use Rattle.trustcache.specs.Rules.{Listed}
 use Rattle.trustcache.specs.Table.{cacheRows}
 use Rattle.trustcache.proofs.Listed.{listed-exactly}
-use Rattle.pages.specs.Marks.{badRows}
+use Rattle.marks.specs.Marks.{badRows}
 use Rattle.admission.specs.Input.{Lent, beside, longest, marksOf}
 use Rattle.admission.specs.Check.{imageRows, laterRows, countRows, checkRows, entryFor, checkTable}
 use Rattle.admission.specs.Admissible.{PagesAgree, Admissible}
@@ -106,7 +107,7 @@ module _ (x : Lent) (m : ℕ) where
         one-mark-a-page = g .marks .0;
         special-slots = matches-exactly s d (x .sides) (f .superblob) .0 (g .special);
         entry-listed = listed-exactly (x .cache) (asNumber (cdhash d)) (x .facts) .0 .0 (g .cache);
-        pages-agree = good-pages d (x .image) (f .formed .slot-a-page) (g .pages);
+        pages-agree = good-pages d (x .image) (f .formed .hash-type) (f .formed .slot-a-page) (g .pages);
       }
 
   -- where no row holds the image may run: its directory is at the position of type 0, and its entry the one that the search finds
@@ -168,7 +169,7 @@ module _ (x : Lent) (m : ℕ) where
           marks = (r .one-mark-a-page, tt);
           special = matches-exactly s d (x .sides) (may .superblob) .1 (r .special-slots);
           cache = l .0 .1 (rw (l .1 (may .entry) (r .entry-listed)) (r .entry-listed));
-          pages = pages-good d (x .image) (r .formed .slot-a-page) (r .pages-agree);
+          pages = pages-good d (x .image) (r .formed .hash-type) (r .formed .slot-a-page) (r .pages-agree);
         }
 
     -- its entry is the one that the search finds

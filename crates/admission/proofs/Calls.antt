@@ -9,21 +9,22 @@ use Rattle.refusals.specs.Refusals.{_≡?_, holds, refuse, accepted, first, Pas
 use Rattle.refusals.proofs.Conditions.{says}
 use Rattle.refusals.proofs.Exact.{Unused, passes}
 use Rattle.refusals.proofs.Joined.{append-passes, stops-at, stops-alone, passed-at, goes-on}
+use Rattle.layout.specs.CodeDirectory.{slotWidth}
 use Rattle.superblob.specs.Rows.{rows, headRows, indexRows}
 use Rattle.directory.specs.Pages.{codeLimit, P}
-use Rattle.directory.specs.Rows.{directory, codeSlots, signatureRows, directoryRows, blobRows, fieldRows, slotRows}
+use Rattle.directory.specs.Rows.{directory, signatureRows, directoryRows, blobRows, fieldRows, slotRows}
 use Rattle.directory.proofs.Formed.{signature-exactly}
 use Rattle.directory.proofs.Pages.{counted, slotted, fits}
 use Rattle.slots.specs.Slots.{specialRows}
 use Rattle.trustcache.specs.Rows.{formRows, lookupRows}
 use Rattle.trustcache.specs.Launch.{launchRows}
 use Rattle.trustcache.specs.Table.{cacheRows}
-use Rattle.pages.specs.Pages.{rangeRows}
-use Rattle.pages.specs.Marks as Marks
-use Rattle.pages.specs.Marks.{markRows, badRows, judged, RangeHere}
-use Rattle.pages.proofs.Tests.{range-passed}
+use Rattle.geometry.specs.Pages.{rangeRows}
+use Rattle.marks.specs.Marks as Marks
+use Rattle.marks.specs.Marks.{markRows, badRows, judged, RangeHere}
+use Rattle.geometry.proofs.Ranges.{range-passed}
 use Rattle.admission.specs.declared.Verdict.{Verdict}
-use Rattle.admission.specs.Input.{Beside, Lent, beside, longest, pageBytesOf, limitOf, marksBy, marksOf, ImageHere}
+use Rattle.admission.specs.Input.{Beside, Lent, beside, longest, slotsBy, pageBytesOf, limitOf, marksBy, marksOf, ImageHere}
 use Rattle.admission.specs.Check.{imageRows, laterRows, countRows, checkRows, entryFor, checkTested, checkTable, checkAnswer, checkMarks, verdictOf, CheckOutcome, checkOf, Checked}
 use Rattle.admission.specs.Recheck.{Call, recheckOf, inputRows, callRows, remarked, callAnswer, callMarks, CallOutcome, callOf, Rechecked}
 
@@ -98,8 +99,8 @@ module _ (s : List ℕ) (start size : ℕ) (contents marks : List ℕ) (a : Answ
     call-passed : Passes (callRows s (recheckOf start size contents) marks)
     call-passed = passed-at (callRows s (recheckOf start size contents) marks) accepted a (call-unused s (recheckOf start size contents) marks) e z
 
-    pub range-here : (d : List ℕ) → d ≡ directory s → RangeHere (P d) (codeLimit d) (codeSlots d) start size contents marks
-    unfolding callRows countRows inputRows
+    pub range-here : (d : List ℕ) → d ≡ directory s → RangeHere (P d) (codeLimit d) (slotsBy d) start size contents marks
+    unfolding callRows countRows inputRows slotWidth
     range-here d k =
         let p = append-passes (signatureRows 0 s) _ call-passed in
         let w = signature-exactly 0 s .0 (p .0) .formed in
@@ -108,7 +109,7 @@ module _ (s : List ℕ) (start size : ℕ) (contents marks : List ℕ) (a : Answ
         rw k (record { fits = fits _ w; slotted = slotted _ w; marked = counted _ w _ (p .1 .0); below = t .0; exact = t .1 })
 
     pub recheck-judged : (d : List ℕ) → d ≡ directory s → (new : List ℕ)
-        → new ≡ Marks.remarked (P d) (codeLimit d) (codeSlots d) start size contents marks → (b : Answer) → b ≡ judged new 0
+        → new ≡ Marks.remarked (P d) (codeLimit d) (slotsBy d) start size contents marks → (b : Answer) → b ≡ judged new 0
         → Rechecked s (recheckOf start size contents) marks b new
     unfolding callOf callAnswer callMarks judged remarked
     recheck-judged d k new n b h =

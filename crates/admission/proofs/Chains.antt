@@ -13,11 +13,12 @@ use Rattle.refusals.specs.declared.Answer.{Answer}
 use Rattle.refusals.specs.Refusals.{refuse, accepted, Passes}
 use Rattle.refusals.proofs.Exact.{passed}
 use Rattle.directory.specs.Rows.{directory}
-use Rattle.pages.specs.Pages.{Fit, pageCount, wanted, rangeRows}
-use Rattle.pages.specs.Marks.{markOf, markRows, judged}
-use Rattle.pages.proofs.Tests.{range-unused, range-passed}
-use Rattle.pages.proofs.Marking.{marks-length, marks-at, marks-pass}
-use Rattle.pages.proofs.Spliced.{spliced-length, spliced-past, remarked-marks}
+use Rattle.geometry.specs.Pages.{Fit, pageCount, wanted, rangeRows}
+use Rattle.marks.specs.Marks.{markOf, markRows, judged}
+use Rattle.geometry.proofs.Ranges.{range-unused, range-passed}
+use Rattle.marks.proofs.Marking.{marks-length, marks-at, marks-pass}
+use Rattle.geometry.proofs.Spliced.{spliced-length, spliced-past}
+use Rattle.marks.proofs.Remarked.{remarked-marks}
 use Rattle.admission.specs.declared.Verdict.{Verdict}
 use Rattle.admission.specs.Input.{Lent, beside, withImage, pageBytesOf, limitOf, slotsOf, marksOf}
 use Rattle.admission.specs.Check.{countRows, checkRows, checkAnswer, CheckOutcome, checkOf, Checked}

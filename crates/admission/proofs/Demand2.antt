@@ -11,8 +11,8 @@ use lib.ListN.{length, getD, take}
 use lib.Seq.{length-take-le}
 use borrow.Author.Tests.{eqb-true}
 use Rattle.endian.proofs.Numbers.{take-small}
-use Rattle.digest.specs.Hash.{digest}
-use Rattle.digest.specs.Sha256.{sha256}
+use Rattle.sha.specs.Hash.{digest}
+use Rattle.sha.specs.Sha2.{sha256}
 use Rattle.digest.proofs.Digests.{digest-small, digest-length}
 use Rattle.layout.specs.TrustCache.{cdhashLength}
 use Rattle.refusals.specs.declared.Answer.{Answer}
@@ -22,17 +22,18 @@ use Rattle.refusals.proofs.Exact.{Unused, Distinct, passes, passed, exact}
 use Rattle.refusals.proofs.Plain.{over-plainly, among-plainly}
 use Rattle.refusals.proofs.Joined.{first-append}
 use Rattle.superblob.specs.Rows.{headRows, indexRows, rows}
-use Rattle.directory.specs.Rows.{cdhash, fieldRows, slotRows, blobRows, directoryRows, signatureRows}
+use Rattle.directory.specs.Rows.{fieldRows, slotRows, blobRows, directoryRows, signatureRows}
+use Rattle.cdhash.specs.Hash.{cdhash}
 use Rattle.slots.specs.Slots.{specialRows}
 use Rattle.trustcache.specs.Rows.{formRows, lookupRows}
 use Rattle.trustcache.specs.Launch.{launchRows}
 use Rattle.trustcache.proofs.Bytes.{hash-less, hash-equal}
 use Rattle.trustcache.proofs.Constraints.{self-plainly, parent-plainly}
 use Rattle.trustcache.specs.Table.{cacheRows}
-use Rattle.pages.specs.Pages.{pageCount, pageOf, rangeRows}
-use Rattle.pages.specs.Marks.{agrees, markOf, markRows, badRows}
-use Rattle.pages.proofs.Pages.{pageBytes-power}
-use Rattle.pages.proofs.Marking.{agrees-equal, marks-at, marks-length}
+use Rattle.geometry.specs.Pages.{pageCount, pageOf, rangeRows}
+use Rattle.marks.specs.Marks.{agrees, markOf, markRows, badRows}
+use Rattle.geometry.proofs.Pages.{pageBytes-power}
+use Rattle.marks.proofs.Marking.{agrees-equal, marks-at, marks-length}
 use Rattle.admission.specs.Input.{Lent, beside, pageBytesOf, limitOf, slotsOf, marksOf}
 use Rattle.admission.specs.Check.{imageRows, laterRows, countRows, checkRows, entryFor, checkTable, checkAnswer, verdictOf, CheckOutcome, checkOf}
 use Rattle.admission.specs.Recheck.{Call, recheckOf, inputRows, callRows, remarked, callAnswer, callMarks, CallOutcome, callOf}

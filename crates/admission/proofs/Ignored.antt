@@ -10,8 +10,8 @@ use mathlib.Core.Path.{_≡_, refl, sym, ap, ap₂, _∙_}
 use native.Mathlib.Omega.{arith}
 use lib.Dec.{eqb}
 use lib.ListN.{length}
-use Rattle.digest.specs.Hash.{digest}
-use Rattle.digest.specs.Sha256.{sha256}
+use Rattle.sha.specs.Hash.{digest}
+use Rattle.sha.specs.Sha2.{sha256}
 use Rattle.digest.specs.Same.{same}
 use Rattle.refusals.specs.declared.Answer.{Answer}
 use Rattle.refusals.specs.Refusals.{_≤?_, _≡?_, holds, row, accepted, refuse, first, Passes}
@@ -24,8 +24,8 @@ use Rattle.layout.specs.CodeDirectory.{directoryType}
 use Rattle.superblob.specs.Rows.{rows, position, has, blobOf}
 use Rattle.directory.specs.Rows.{mostSpecialSlots, directory, specialSlot, blobRows, directoryRows, signatureRows}
 use Rattle.slots.specs.Slots.{isEmpty, nothing, there, thing, faultOf, fault, specialRows}
-use Rattle.pages.specs.Marks.{badRows}
-use Rattle.pages.proofs.Marking.{marks-below}
+use Rattle.marks.specs.Marks.{badRows}
+use Rattle.marks.proofs.Marking.{marks-below}
 use Rattle.admission.specs.Input.{Lent, beside, longest, pageBytesOf, limitOf, slotsOf, marksBy, marksOf}
 use Rattle.admission.specs.Check.{imageRows, laterRows, checkRows, entryFor, checkTable, checkAnswer, checkMarks, verdictOf, CheckOutcome, checkOf}
 use Rattle.admission.specs.Ignored.{Opaque, SameRead, Alike, Ignored}

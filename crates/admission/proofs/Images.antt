@@ -6,9 +6,9 @@ use mathlib.Core.List.{List, [], _∷_}
 use mathlib.Core.Path.{_≡_, refl, sym, _∙_}
 use native.Mathlib.Omega.{arith}
 use lib.ListN.{length, drop}
-use Rattle.pages.specs.Pages.{Fit, splice}
-use Rattle.pages.proofs.Lists.{splice-length, splice-past}
-use Rattle.pages.proofs.Spliced.{change-page, same-pages}
+use Rattle.geometry.specs.Pages.{Fit, splice}
+use Rattle.geometry.proofs.Parts.{splice-length, splice-past}
+use Rattle.geometry.proofs.Spliced.{change-page, same-pages}
 use Rattle.admission.specs.Input.{beside, withImage, pageBytesOf, limitOf}
 use Rattle.admission.specs.Meets.{meets}
 use Rattle.admission.specs.Demand3.{opened, bookAfter, wholeAnswer, calls, Event, change, call, imageAfter, madeIn, Faithful, examines, pageAt, lastSeen, altered, Images}

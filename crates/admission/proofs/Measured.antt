@@ -4,7 +4,7 @@ use Rattle.endian.specs.Numbers.{big}
 use Rattle.refusals.specs.Refusals.{pick, holds, lowest, first}
 use Rattle.refusals.specs.Ranges.{lookup}
 use Rattle.layout.specs.CodeDirectory.{version, hashOffset, identOffset, nSpecialSlots, nCodeSlots, codeLimit32, hashSize, hashType, pageSize, scatterOffset, codeLimit64}
-use Rattle.pages.specs.Pages.{pageBytes, pageCount, metFirst, metEnd, rangeRows}
+use Rattle.geometry.specs.Pages.{pageBytes, pageCount, metFirst, metEnd, rangeRows}
 use Rattle.directory.specs.Pages.{codeLimit, P, pages}
 use Rattle.directory.specs.Head.{headSizes, headSize, headOf, since}
 use Rattle.directory.specs.Rows.{specialOutside, codeOutside, zeroAt, identLength, fieldRows, slotRows, blobRows}

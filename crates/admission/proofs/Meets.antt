@@ -15,12 +15,13 @@ use Rattle.refusals.proofs.Exact.{passes-zero}
 use Rattle.directory.specs.Rows.{directory}
 use Rattle.directory.proofs.Formed.{signature-exactly}
 use Rattle.directory.proofs.Pages.{fits}
-use Rattle.pages.specs.Pages.{part, metFirst, metEnd, splice}
-use Rattle.pages.specs.Marks as Marks
-use Rattle.pages.specs.Marks.{agrees, markOf, markIn, marksFrom, RangeHere}
-use Rattle.pages.proofs.Lists.{part-at, splice-before, splice-inside, splice-after, tab-length, tab-at}
-use Rattle.pages.proofs.Marking.{cut-order, cut-within, remarked-length}
-use Rattle.pages.proofs.Pages.{meets-exactly}
+use Rattle.geometry.specs.Pages.{part, metFirst, metEnd, splice}
+use Rattle.marks.specs.Marks as Marks
+use Rattle.marks.specs.Marks.{Slots, agrees, markOf, markIn, marksFrom, RangeHere}
+use Rattle.geometry.proofs.Parts.{part-at, splice-before, splice-inside, splice-after}
+use Rattle.marks.proofs.Tabs.{tab-length, tab-at}
+use Rattle.marks.proofs.Marking.{cut-order, cut-within, remarked-length}
+use Rattle.geometry.proofs.Pages.{meets-exactly}
 use Rattle.admission.specs.Input.{pageBytesOf, limitOf, slotsOf}
 use Rattle.admission.specs.Recheck.{Call, recheckOf, callRows, remarked}
 use Rattle.admission.specs.Meets.{meets, metBy, lentPage, Meets}
@@ -65,7 +66,7 @@ same-one l m i j e = sym (part-one l i) ∙ ap (λ (q : List ℕ). getD q 0 0) e
     part-one l i = part-at l i (i + 1) 0 (omega arith) ∙ ap (λ (k : ℕ). getD l k 0) (add-zero i)
 
 -- a range that passes 32 and 33, with a mark for each page
-module _ (p limit : ℕ) (slots : List ℕ) (start size : ℕ) (new marks : List ℕ) (h : RangeHere p limit slots start size new marks) where
+module _ (p limit : ℕ) (slots : Slots) (start size : ℕ) (new marks : List ℕ) (h : RangeHere p limit slots start size new marks) where
   -- the first page met, and the page behind the last
   abbrev begin : ℕ
   begin = metFirst p start size

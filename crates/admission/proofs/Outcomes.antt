@@ -22,9 +22,9 @@ use Rattle.slots.specs.Slots.{specialRows}
 use Rattle.trustcache.specs.Rows.{formRows, lookupRows}
 use Rattle.trustcache.specs.Launch.{launchRows}
 use Rattle.trustcache.specs.Table.{cacheRows}
-use Rattle.pages.specs.Pages.{Fit, pageCount, rangeRows}
-use Rattle.pages.specs.Marks.{markRows, badRows, judged}
-use Rattle.pages.proofs.Marking.{judged-place}
+use Rattle.geometry.specs.Pages.{Fit, pageCount, rangeRows}
+use Rattle.marks.specs.Marks.{markRows, badRows, judged}
+use Rattle.marks.proofs.Marking.{judged-place}
 use Rattle.admission.specs.Input.{Beside, Lent, beside, withImage, longest, pageBytesOf, limitOf, marksOf}
 use Rattle.admission.specs.Check.{imageRows, laterRows, countRows, checkRows, entryFor, checkTable, checkAnswer, checkMarks}
 use Rattle.admission.specs.Recheck.{Call, recheckOf, inputRows, callRows, remarked, callAnswer, callMarks}

@@ -10,11 +10,11 @@ use lib.ListN.{length, getD}
 use borrow.Author.Tests.{eqb-true}
 use Rattle.refusals.specs.declared.Answer.{Answer}
 use Rattle.refusals.specs.Refusals.{accepted, refuse, Passes}
-use Rattle.pages.specs.Pages.{pageCount}
-use Rattle.pages.specs.Marks.{agrees, markOf, differs, judged}
-use Rattle.pages.proofs.Marking.{marks-length, marks-at}
-use Rattle.pages.proofs.Tests.{judged-bad, bad-judged, judged-good, good-judged}
-use Rattle.pages.proofs.Spliced.{page-unmet, page-lent}
+use Rattle.geometry.specs.Pages.{pageCount}
+use Rattle.marks.specs.Marks.{agrees, markOf, differs, judged}
+use Rattle.marks.proofs.Marking.{marks-length, marks-at}
+use Rattle.marks.proofs.Tests.{judged-bad, bad-judged, judged-good, good-judged}
+use Rattle.geometry.proofs.Spliced.{page-unmet, page-lent}
 use Rattle.admission.specs.Input.{Lent, beside, pageBytesOf, limitOf, slotsOf, marksOf}
 use Rattle.admission.specs.Check.{checkRows}
 use Rattle.admission.specs.Recheck.{Call, recheckOf}

@@ -12,14 +12,15 @@ use Rattle.refusals.proofs.Exact.{Unused, decides, passes}
 use Rattle.refusals.proofs.Joined.{stops, goes, goes-on}
 use Rattle.layout.specs.CodeDirectory.{nCodeSlots}
 use Rattle.directory.specs.Pages.{codeLimit, P}
-use Rattle.directory.specs.Rows.{directory, cdhash, signatureRows}
+use Rattle.directory.specs.Rows.{directory, signatureRows}
+use Rattle.cdhash.specs.Hash.{cdhash}
 use Rattle.directory.proofs.Numbers.{signatureRows-unused}
 use Rattle.slots.specs.Slots.{Sides, specialRows}
 use Rattle.trustcache.specs.Rows.{asNumber, entryOf}
 use Rattle.trustcache.specs.Table.{cacheRows, cacheAnswer}
-use Rattle.pages.specs.Pages.{rangeRows}
-use Rattle.pages.specs.Marks.{markRows}
-use Rattle.pages.proofs.Tests.{range-unused}
+use Rattle.geometry.specs.Pages.{rangeRows}
+use Rattle.marks.specs.Marks.{markRows}
+use Rattle.geometry.proofs.Ranges.{range-unused}
 use Rattle.admission.specs.Input.{Beside, longest}
 use Rattle.admission.specs.Check.{imageRows, countRows, laterRows, checkRows, entryFor, checkTested}
 use Rattle.admission.specs.Recheck.{recheckOf, inputRows, callRows}

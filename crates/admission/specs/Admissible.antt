@@ -4,16 +4,17 @@ use mathlib.Core.Bool.{true}
 use mathlib.Core.List.{List}
 use mathlib.Core.Path.{_≡_}
 use lib.ListN.{length}
-use Rattle.digest.specs.Hash.{digest}
-use Rattle.digest.specs.Sha256.{sha256}
+use Rattle.sha.specs.Hash.{digest}
+use Rattle.sha.specs.Sha2.{sha256}
 use Rattle.layout.specs.SuperBlob.{count, typeAt}
 use Rattle.layout.specs.CodeDirectory.{directoryType, nCodeSlots}
 use Rattle.superblob.specs.Rows.{mostSide, blobAt}
 use Rattle.superblob.specs.Formed.{Formed}
 use Rattle.directory.specs.Pages.{codeLimit, P}
-use Rattle.directory.specs.Rows.{mostSpecialSlots, cdhash, codeSlot}
+use Rattle.directory.specs.Rows.{mostSpecialSlots, codeSlot}
+use Rattle.cdhash.specs.Hash.{cdhash}
 use Rattle.directory.specs.Formed.{DirectoryFormed}
-use Rattle.pages.specs.Pages.{pageOf}
+use Rattle.geometry.specs.Pages.{pageOf}
 use Rattle.slots.specs.Matches.{Matches}
 use Rattle.trustcache.specs.Rows.{asNumber}
 use Rattle.trustcache.specs.Rules.{Listed}

@@ -8,11 +8,12 @@ use Rattle.refusals.specs.declared.Answer.{Answer}
 use Rattle.refusals.specs.Refusals.{_<?_, _≡?_, _≢?_, holds, Row, row, refuse, accepted, first}
 use Rattle.layout.specs.CodeDirectory.{nCodeSlots}
 use Rattle.directory.specs.Pages.{codeLimit}
-use Rattle.directory.specs.Rows.{directory, cdhash, signatureRows}
+use Rattle.directory.specs.Rows.{directory, signatureRows}
+use Rattle.cdhash.specs.Hash.{cdhash}
 use Rattle.slots.specs.Slots.{specialRows}
 use Rattle.trustcache.specs.Rows.{asNumber, entryOf}
 use Rattle.trustcache.specs.Table.{cacheRows}
-use Rattle.pages.specs.Marks.{badRows}
+use Rattle.marks.specs.Marks.{badRows}
 use Rattle.admission.specs.declared.Verdict.{Verdict}
 use Rattle.admission.specs.Input.{Beside, Lent, beside, longest, marksOf}
 

@@ -9,16 +9,18 @@ use lib.ListN.{length, getD}
 use Rattle.endian.specs.Numbers.{AllBytes}
 use Rattle.refusals.specs.declared.Answer.{Answer}
 use Rattle.refusals.specs.Refusals.{Decides, Passes, refuse, OverPlainly, AmongPlainly}
+use Rattle.digest.specs.Kinds.{Sha256Kind}
 use Rattle.layout.specs.CodeDirectory.{nCodeSlots}
 use Rattle.layout.specs.TrustCache.{cacheHead, entrySize, entryCount, hashAt}
-use Rattle.directory.specs.Rows.{cdhash, codeSlot, codeSlots}
-use Rattle.pages.specs.Pages.{PagePower, pageCount, pageOf}
-use Rattle.pages.specs.Marks.{slotAt, badRows, agrees, AgreesExactly}
+use Rattle.directory.specs.Rows.{codeSlot}
+use Rattle.cdhash.specs.Hash.{cdhash}
+use Rattle.geometry.specs.Pages.{PagePower, pageCount, pageOf}
+use Rattle.marks.specs.Marks.{slotAt, badRows, agrees, AgreesExactly}
 use Rattle.trustcache.specs.Bytes.{HashLess}
 use Rattle.trustcache.specs.Rows.{asNumber, hashNumber}
 use Rattle.trustcache.specs.Launch.{SelfPlainly, ParentPlainly}
 use Rattle.admission.specs.declared.Verdict.{Verdict}
-use Rattle.admission.specs.Input.{Lent, pageBytesOf, limitOf, slotsOf}
+use Rattle.admission.specs.Input.{Lent, slotsBy, pageBytesOf, limitOf, slotsOf}
 use Rattle.admission.specs.Check.{Checked, checkTable, verdictOf}
 use Rattle.admission.specs.Recheck.{Call, Rechecked, callRows, remarked}
 use Rattle.admission.specs.Meets.{metBy, lentPage}
@@ -54,7 +56,7 @@ pub record Recheck2 (s : List ℕ) (c : Call) (marks : List ℕ) (a : Answer) (a
 
 -- the slot that the marks go by is the directory's
 abbrev pub CodeSlotsAre : Type 0
-CodeSlotsAre = (d : List ℕ) (i : ℕ) → i < nCodeSlots d → codeSlot d i ≡ slotAt (codeSlots d) i
+CodeSlotsAre = (d : List ℕ) (i : ℕ) → i < nCodeSlots d → codeSlot d i ≡ slotAt (slotsBy d) i
 
 -- an entry has the directory's hash exactly when it has its 20 bytes, in a cache that holds all its entries
 abbrev pub EntryHash : Type 0
@@ -68,8 +70,9 @@ pub record Plainly : Type 0 where
   pub several-numbers : AmongPlainly
   -- P is 2 to the pageSize field
   pub page-size : PagePower
-  -- a page agrees with its slot exactly when the slot holds its digest
+  -- a page agrees with its slot exactly when the slot holds its digest, which is SHA-256 by the kind that is taken
   pub agrees-exactly : AgreesExactly
+  pub kind-taken : Sha256Kind
   pub code-slots : CodeSlotsAre
   -- hashes are ordered by their bytes, the first byte first, and an entry's is the directory's where the bytes are
   pub hash-order : HashLess

@@ -9,8 +9,8 @@ use lib.Dec.{eqb}
 use lib.ListN.{length, getD}
 use Rattle.refusals.specs.declared.Answer.{Answer}
 use Rattle.refusals.specs.Refusals.{refuse, accepted, first}
-use Rattle.pages.specs.Pages.{pageCount, pageOf, part, metFirst, metStop, splice}
-use Rattle.pages.specs.Marks.{agrees}
+use Rattle.geometry.specs.Pages.{pageCount, pageOf, part, metFirst, metStop, splice}
+use Rattle.marks.specs.Marks.{agrees}
 use Rattle.admission.specs.declared.Verdict.{Verdict}
 use Rattle.admission.specs.Input.{Lent, withImage, pageBytesOf, limitOf, slotsOf}
 use Rattle.admission.specs.Check.{Checked, checkAnswer, checkMarks}

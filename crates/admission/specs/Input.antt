@@ -5,13 +5,14 @@ use mathlib.Core.List.{List}
 use mathlib.Core.Path.{_≡_}
 use lib.ListN.{length}
 use Rattle.refusals.specs.Refusals.{_<?_, pick}
-use Rattle.layout.specs.CodeDirectory.{slotWidth}
+use Rattle.layout.specs.CodeDirectory.{hashType, slotWidth}
 use Rattle.directory.specs.Pages.{codeLimit, P}
 use Rattle.directory.specs.Rows.{directory, codeSlots}
 use Rattle.slots.specs.Slots.{Sides, sides}
 use Rattle.trustcache.specs.declared.launch.Launch.{Launch}
-use Rattle.pages.specs.Pages.{pageCount}
-use Rattle.pages.specs.Marks as Marks
+use Rattle.geometry.specs.Pages.{pageCount}
+use Rattle.marks.specs.Marks as Marks
+use Rattle.marks.specs.Marks.{Slots, slotsOfKind}
 
 -- what a whole check is lent beside the image and the marks: what tests 1 to 30 read, but for two lengths
 pub record Beside : Type 0 where
@@ -52,11 +53,15 @@ longest x =
 
 -- OF A DIRECTORY d
 
+-- its code slots
+abbrev pub slotsBy : List ℕ → Slots
+slotsBy d = slotsOfKind (hashType d) (codeSlots d)
+
 -- the marks of an image
 abbrev pub marksBy : List ℕ → List ℕ → List ℕ
-marksBy d image = Marks.marksOf (P d) (codeLimit d) (codeSlots d) image
+marksBy d image = Marks.marksOf (P d) (codeLimit d) (slotsBy d) image
 
--- OF A SIGNATURE, by its directory: P, the code limit, and the bytes of the code slots
+-- OF A SIGNATURE, by its directory: P, the code limit, and the code slots
 
 abbrev pub pageBytesOf : List ℕ → ℕ
 pageBytesOf s = P (directory s)
@@ -64,8 +69,8 @@ pageBytesOf s = P (directory s)
 abbrev pub limitOf : List ℕ → ℕ
 limitOf s = codeLimit (directory s)
 
-abbrev pub slotsOf : List ℕ → List ℕ
-slotsOf s = codeSlots (directory s)
+abbrev pub slotsOf : List ℕ → Slots
+slotsOf s = slotsBy (directory s)
 
 -- the marks of an image
 abbrev pub marksOf : List ℕ → List ℕ → List ℕ
@@ -73,6 +78,6 @@ marksOf s image = marksBy (directory s) image
 
 -- what the writing of all marks requires: a slot and a mark for each page, in an image that reaches the limit
 pub record ImageHere (d image marks : List ℕ) : Type 0 where
-  pub slotted : slotWidth * pageCount (P d) (codeLimit d) ≤ length (codeSlots d)
+  pub slotted : slotWidth d * pageCount (P d) (codeLimit d) ≤ length (codeSlots d)
   pub marked : length marks ≡ pageCount (P d) (codeLimit d)
   pub reached : codeLimit d ≤ length image

@@ -4,7 +4,7 @@ use Prim.Native.Nat.{ℕ}
 use mathlib.Core.List.{List, [], _∷_}
 use mathlib.Core.Path.{_≡_}
 use Rattle.refusals.specs.Refusals.{accepted, first}
-use Rattle.pages.specs.Pages.{pageBytes, pageCount, wanted, rangeRows}
+use Rattle.geometry.specs.Pages.{pageBytes, pageCount, wanted, rangeRows}
 use Rattle.directory.specs.Head.{headSize}
 use Rattle.directory.specs.Rows.{blobRows}
 

@@ -7,7 +7,7 @@ use mathlib.Core.Path.{_≡_}
 use lib.Dec.{ltb, leb}
 use Rattle.refusals.specs.Refusals.{Passes}
 use Rattle.directory.specs.Rows.{signatureRows}
-use Rattle.pages.specs.Pages.{pageStart, pageEnd, part, metFirst, metEnd, Shared}
+use Rattle.geometry.specs.Pages.{pageStart, pageEnd, part, metFirst, metEnd, Shared}
 use Rattle.admission.specs.Input.{pageBytesOf, limitOf}
 use Rattle.admission.specs.Recheck.{Call, recheckOf}
 

@@ -7,9 +7,9 @@ use lib.ListN.{length}
 use Rattle.refusals.specs.declared.Answer.{Answer}
 use Rattle.refusals.specs.Refusals.{_≡?_, holds, Row, accepted, first}
 use Rattle.directory.specs.Rows.{directory, signatureRows}
-use Rattle.pages.specs.Pages.{rangeRows}
-use Rattle.pages.specs.Marks as Marks
-use Rattle.pages.specs.Marks.{markRows, badRows}
+use Rattle.geometry.specs.Pages.{rangeRows}
+use Rattle.marks.specs.Marks as Marks
+use Rattle.marks.specs.Marks.{markRows, badRows}
 use Rattle.admission.specs.Input.{pageBytesOf, limitOf, slotsOf}
 use Rattle.admission.specs.Check.{countRows}
 

@@ -11,11 +11,10 @@ ghost use mathlib.Core.List.{_++_};
 ghost use mathlib.Core.Path.{_≡_};
 ghost use Rattle.refusals.specs.Refusals.{first, accepted};
 ghost use Rattle.directory.specs.Pages.{codeLimit, P};
-ghost use Rattle.directory.specs.Rows.{codeSlots};
-ghost use Rattle.pages.specs.Pages.{rangeRows};
-ghost use Rattle.pages.specs.Marks.{remarked, RangeHere};
+ghost use Rattle.geometry.specs.Pages.{rangeRows};
+ghost use Rattle.marks.specs.Marks.{remarked, RangeHere};
 ghost use Rattle.slots.specs.Slots.{sides};
-ghost use Rattle.admission.specs.Input.{besides, lent, longest, marksBy, ImageHere};
+ghost use Rattle.admission.specs.Input.{besides, lent, longest, slotsBy, marksBy, ImageHere};
 ghost use Rattle.admission.specs.Check.{imageRows, countRows, checkTested, verdictOf, Checked};
 ghost use Rattle.admission.specs.Recheck.{recheckOf, callRows, Rechecked};
 
@@ -56,7 +55,7 @@ pub fn check(
     }
     let d = superblob::blob_of(signature, CodeDirectory::TYPE);
     write_marks(d, image, marks);
-    verdict_of(pages::judge(marks, tested.place))
+    verdict_of(marks::judge(marks, tested.place))
 }
 
 // The recheck of `size` bytes from `start` on, lent the bytes of the pages met: tests 1 to 18, 20, 32, 33 and 34. A refusal by one of
@@ -70,7 +69,7 @@ pub fn recheck(signature: &[u8], start: u64, size: u64, contents: &[u8], marks: 
     }
     let d = superblob::blob_of(signature, CodeDirectory::TYPE);
     rewrite_marks(d, start, size, contents, marks);
-    pages::judge(marks, 0)
+    marks::judge(marks, 0)
 }
 
 // A whole check's answer, made from an answer.
@@ -111,7 +110,7 @@ pub fn check_tested(
     if matched.number != 0 {
         return matched;
     }
-    trustcache::tested(cache, directory::cdhash(d), launch)
+    trustcache::tested(cache, cdhash::cdhash(d), launch)
 }
 
 // Tests 1 to 18, 20, 32, 33 and 34. No side file is lent.
@@ -131,7 +130,7 @@ fn recheck_tested(signature: &[u8], start: u64, size: u64, contents: &[u8], mark
     if input.number != 0 {
         return input;
     }
-    pages::marks_tested(marks)
+    marks::marks_tested(marks)
 }
 
 // The length of a side file, 0 where it is not there.
@@ -183,7 +182,7 @@ fn count_tested(d: &[u8], marks_length: usize) -> Answer
 fn input_tested(d: &[u8], start: u64, size: u64, given: usize) -> Answer
     ensures { λ r. ⌜ r ≡ first (rangeRows (P (now (d .entry))) (codeLimit (now (d .entry))) start size given) accepted ⌝ }
 {
-    pages::range_tested(
+    geometry::range_tested(
         directory::page_size(d),
         directory::code_limit(d),
         start,
@@ -197,9 +196,10 @@ fn write_marks(d: &[u8], image: &[u8], marks: &mut [u8])
     requires { ⌜ ImageHere (now d) (now image) (now marks) ⌝ }
     ensures { λ r. ⌜ now (marks .exit) ≡ marksBy (now (d .entry)) (now (image .entry)) ⌝ }
 {
-    pages::mark_pages(
+    marks::mark_pages(
         directory::page_size(d),
         directory::code_limit(d),
+        CodeDirectory::read(d).hash_type,
         directory::code_slots(d),
         0,
         image,
@@ -209,16 +209,17 @@ fn write_marks(d: &[u8], image: &[u8], marks: &mut [u8])
 
 // Hashes the pages that a range meets and writes their marks. No other mark is touched.
 fn rewrite_marks(d: &[u8], start: u64, size: u64, contents: &[u8], marks: &mut [u8])
-    requires { ⌜ RangeHere (P (now d)) (codeLimit (now d)) (codeSlots (now d)) start size (now contents) (now marks) ⌝ }
-    ensures { λ r. ⌜ now (marks .exit) ≡ remarked (P (now (d .entry))) (codeLimit (now (d .entry))) (codeSlots (now (d .entry))) start size (now (contents .entry)) (now (marks .entry)) ⌝ }
+    requires { ⌜ RangeHere (P (now d)) (codeLimit (now d)) (slotsBy (now d)) start size (now contents) (now marks) ⌝ }
+    ensures { λ r. ⌜ now (marks .exit) ≡ remarked (P (now (d .entry))) (codeLimit (now (d .entry))) (slotsBy (now (d .entry))) start size (now (contents .entry)) (now (marks .entry)) ⌝ }
 {
     let p = directory::page_size(d);
     let limit = directory::code_limit(d);
-    let first = pages::first_met(p, start as usize, size as usize);
-    let end = pages::end_met(p, start as usize, size as usize);
-    pages::mark_pages(
+    let first = geometry::first_met(p, start as usize, size as usize);
+    let end = geometry::end_met(p, start as usize, size as usize);
+    marks::mark_pages(
         p,
         limit,
+        CodeDirectory::read(d).hash_type,
         directory::code_slots(d),
         first,
         contents,

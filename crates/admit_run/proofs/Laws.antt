@@ -15,7 +15,7 @@ use Rattle.layout.specs.CodeDirectory.{directoryType, nCodeSlots}
 use Rattle.superblob.specs.Rows.{position, blobAt, blobOf}
 use Rattle.directory.specs.Rows.{directory, signatureRows}
 use Rattle.directory.proofs.Numbers.{signatureRows-exact}
-use Rattle.directory.proofs.Slots.{few-slots}
+use Rattle.directory.proofs.Pages.{few}
 use Rattle.directory.proofs.Formed.{signature-exactly}
 use Rattle.admission.specs.declared.Verdict.{Verdict}
 use Rattle.admission.specs.Check.{CheckOutcome, checkOf, checkAnswer, verdictOf, Checked}
@@ -39,7 +39,7 @@ module _ (s : List ℕ) (a : Answer) (e : a ≡ first (signatureRows 0 s) accept
   unfolding marksWanted
   wanted-some n q h =
       let z : first (signatureRows 0 s) accepted .number ≡ 0 = sym (ap (λ (x : Answer). x .number) e) ∙ h in
-      let w = few-slots (directory s) (signature-exactly 0 s .0 (signatureRows-exact 0 s .accepts .0 z) .formed .slots-inside) in
+      let w = few (directory s) (signature-exactly 0 s .0 (signatureRows-exact 0 s .accepts .0 z) .formed) in
       (pick-yes _ _ _ _ z q, omega (arith, directory-length s))
 
 pub verdict-is : (s image cache marks : List ℕ) (n : ℕ) (v : Verdict) (after : List ℕ) → n ≡ marksWanted s → n ≤ length marks

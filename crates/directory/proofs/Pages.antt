@@ -5,6 +5,7 @@ use mathlib.Core.Bool.{Bool, true, false}
 use mathlib.Core.List.{List}
 use mathlib.Core.Logic.{_↔_, ⊎-elim}
 use mathlib.Core.Path.{_≡_, refl, sym, _∙_}
+use native.Mathlib.Nat.{le-of-eq}
 use native.Mathlib.Omega.{arith}
 use lib.Dec.{eqb}
 use lib.ListN.{length}
@@ -13,15 +14,16 @@ use Rattle.endian.specs.Numbers.{AllBytes}
 use Rattle.endian.proofs.Laws.{big-below}
 use Rattle.refusals.specs.Refusals.{_<?_, _≡?_, Says}
 use Rattle.refusals.proofs.Conditions.{pick-yes, pick-no}
-use Rattle.layout.specs.CodeDirectory.{slotWidth, nCodeSlots, codeLimit32, codeLimit64}
-use Rattle.pages.specs.Pages.{Fit, pageCount}
-use Rattle.pages.proofs.Pages.{fit-of}
+use Rattle.layout.specs.CodeDirectory.{hashType, slotWidth, nCodeSlots, codeLimit32, codeLimit64}
+use Rattle.layout.proofs.Widths.{width-256}
+use Rattle.geometry.specs.Pages.{Fit, pageCount}
+use Rattle.geometry.proofs.Pages.{fit-of}
 use Rattle.directory.specs.Head.{limit64Version, since}
 use Rattle.directory.specs.Pages.{codeLimit, mostCodeLimit, P, pages, LimitPlainly}
 use Rattle.directory.specs.Rows.{codeSlots}
 use Rattle.directory.specs.Formed.{DirectoryFormed}
 use Rattle.directory.proofs.Since.{since-has, since-plainly}
-use Rattle.directory.proofs.Slots.{codeSlots-length}
+use Rattle.directory.proofs.Slots.{codeSlots-length, few-slots}
 
 -- THE CODE LIMIT
 
@@ -70,8 +72,13 @@ module _ (d : List ℕ) (w : DirectoryFormed d) where
   counted n e = e ∙ w .slot-a-page
 
   -- all of them there
-  pub slotted : slotWidth * pageCount (P d) (codeLimit d) ≤ length (codeSlots d)
-  slotted = omega (arith, codeSlots-length d (w .slots-inside), counted (nCodeSlots d) refl)
+  pub slotted : slotWidth d * pageCount (P d) (codeLimit d) ≤ length (codeSlots d)
+  slotted = rw (← counted (nCodeSlots d) refl) (le-of-eq (sym (codeSlots-length d (w .slots-inside))))
+
+  -- and no more than the directory has bytes
+  pub few : nCodeSlots d ≤ length d
+  unfolding slotWidth
+  few = few-slots d (omega (arith, width-256 (hashType d) (w .hash-type))) (w .slots-inside)
 
   pub fits : Fit (P d) (codeLimit d)
   unfolding P

@@ -3,7 +3,7 @@ use Prim.Native.Nat.{ℕ, zero, suc, _+_, _-_, _*_, _<_, _≤_}
 use mathlib.Core.Bool.{Bool, true, false}
 use mathlib.Core.List.{List, [], _∷_}
 use mathlib.Core.Path.{_≡_, refl, sym, ap, _∙_}
-use native.Mathlib.Nat.{le-refl}
+use native.Mathlib.Nat.{le-refl, mul-zero, mul-one, one-mul, mul-suc, mul-le-mul-left, mul-le-mul-right}
 use native.Mathlib.Omega.{arith}
 use lib.Dec.{ltb}
 use lib.ListN.{length, take, drop, length-drop}
@@ -14,36 +14,66 @@ use Rattle.layout.specs.CodeDirectory.{slotWidth, hashOffset, nSpecialSlots, nC
 use Rattle.directory.specs.Rows.{codeSlot, codeSlots, specialOutside, codeOutside}
 use Rattle.directory.specs.Formed.{SlotsInside}
 
+-- BYTES OF SLOTS, over their width w
+
+module _ (w : ℕ) where
+  -- slot i ends where slot i + 1 starts, and so no later than the last of n slots
+  slot-end : (i n : ℕ) → i < n → w * i + w ≤ w * n
+  slot-end i n h =
+      let e : w * suc i ≡ w * i + w = mul-suc w i in
+      omega (arith, mul-le-mul-left {m = suc i} {n = n} w (omega arith))
+
+  -- and slot k from the end on, counted from 1, ends where the slot before it starts
+  slot-back : (k n : ℕ) → 0 < k → k ≤ n → (w ≤ w * k) × (w * k ≤ w * n)
+  slot-back k n p q =
+      (omega (arith, mul-le-mul-left {m = 1} {n = k} w p, mul-one w), mul-le-mul-left {m = k} {n = n} w q)
+
+  -- all n of them end where the last ends
+  last-end : (n : ℕ) → 0 < n → w * (n - 1) + w ≡ w * n
+  last-end n p =
+      let e : suc (n - 1) ≡ n = omega arith in
+      sym (mul-suc w (n - 1)) ∙ ap (λ (k : ℕ). w * k) e
+
 -- test 17 passes exactly then
 pub slots-inside : (d : List ℕ) → (Says false (specialOutside d or codeOutside d) → SlotsInside d) × (SlotsInside d → Says false (specialOutside d or codeOutside d))
 unfolding specialOutside codeOutside
 slots-inside d = (
   (λ h.
       record {
-        special = λ k p q. let w = h .0 (omega arith) in (omega arith, omega arith);
-        code = λ i p. let w = h .1 (omega arith) in (omega arith, omega arith);
+        special = λ k p q.
+            let w = h .0 (omega arith) in
+            let b = slot-back (slotWidth d) k (nSpecialSlots d) p q in
+            (omega arith, omega arith);
+        code = λ i p.
+            let w = h .1 (omega arith) in
+            let b = slot-end (slotWidth d) i (nCodeSlots d) p in
+            (omega arith, omega arith);
       }),
   λ w. (
     (λ p.
         let a = w .special (nSpecialSlots d) p (le-refl (nSpecialSlots d)) in
         let b = w .special 1 (omega arith) (omega arith) in
+        let c = mul-one (slotWidth d) in
         (omega arith, omega arith)),
     λ p.
         let a = w .code 0 p in
         let b = w .code (nCodeSlots d - 1) (omega arith) in
+        let c = mul-zero (slotWidth d) in
+        let e = last-end (slotWidth d) (nCodeSlots d) p in
         (omega arith, omega arith),
   ),
 )
 
--- no more code slots than bytes
-pub few-slots : (d : List ℕ) → SlotsInside d → nCodeSlots d ≤ length d
-few-slots d w = by-test (ltb 0 (nCodeSlots d)) refl
+-- no more code slots than bytes, where a slot has any
+pub few-slots : (d : List ℕ) → 0 < slotWidth d → SlotsInside d → nCodeSlots d ≤ length d
+few-slots d v w = by-test (ltb 0 (nCodeSlots d)) refl
   where
     by-test : (b : Bool) → ltb 0 (nCodeSlots d) ≡ b → nCodeSlots d ≤ length d
     by-test true t =
         let p : 0 < nCodeSlots d = ltb-true 0 (nCodeSlots d) t in
         let a = w .code (nCodeSlots d - 1) (omega arith) in
-        omega arith
+        let e = last-end (slotWidth d) (nCodeSlots d) p in
+        omega (arith, mul-le-mul-right {m = 1} {n = slotWidth d} (nCodeSlots d) v, one-mul (nCodeSlots d))
     by-test false t =
         let z : nCodeSlots d ≤ 0 = ltb-false 0 (nCodeSlots d) t in
         omega arith
@@ -64,23 +94,26 @@ drop-take (suc k) (suc n) (x ∷ l) =
     rw e (drop-take k n l)
 
 -- the code slots are all there
-pub codeSlots-length : (d : List ℕ) → SlotsInside d → length (codeSlots d) ≡ slotWidth * nCodeSlots d
+pub codeSlots-length : (d : List ℕ) → SlotsInside d → length (codeSlots d) ≡ slotWidth d * nCodeSlots d
 unfolding codeSlots
 codeSlots-length d w = by-test (ltb 0 (nCodeSlots d)) refl
   where
-    by-test : (b : Bool) → ltb 0 (nCodeSlots d) ≡ b → length (take (slotWidth * nCodeSlots d) (drop (hashOffset d) d)) ≡ slotWidth * nCodeSlots d
+    by-test : (b : Bool) → ltb 0 (nCodeSlots d) ≡ b → length (take (slotWidth d * nCodeSlots d) (drop (hashOffset d) d)) ≡ slotWidth d * nCodeSlots d
     by-test true e =
         let h = ltb-true 0 (nCodeSlots d) e in
-        part-length (slotWidth * nCodeSlots d) (hashOffset d) d (omega (arith, w .code (nCodeSlots d - 1) (omega arith)))
+        part-length (slotWidth d * nCodeSlots d) (hashOffset d) d
+        (omega (arith, w .code (nCodeSlots d - 1) (omega arith), last-end (slotWidth d) (nCodeSlots d) h))
     by-test false e =
-        let z : slotWidth * nCodeSlots d ≡ 0 = omega (arith, ltb-false 0 (nCodeSlots d) e) in
+        let n : nCodeSlots d ≡ 0 = omega (arith, ltb-false 0 (nCodeSlots d) e) in
+        let z : slotWidth d * nCodeSlots d ≡ 0 = ap (λ (k : ℕ). slotWidth d * k) n ∙ mul-zero (slotWidth d) in
         rw z
 
 -- code slot i, in the code slots
-pub codeSlot-part : (d : List ℕ) (i : ℕ) → i < nCodeSlots d → codeSlot d i ≡ take slotWidth (drop (slotWidth * i) (codeSlots d))
+pub codeSlot-part : (d : List ℕ) (i : ℕ) → i < nCodeSlots d → codeSlot d i ≡ take (slotWidth d) (drop (slotWidth d * i) (codeSlots d))
 unfolding codeSlot codeSlots
 codeSlot-part d i h =
     sym
-    (ap (take slotWidth) (drop-take (slotWidth * i) (slotWidth * nCodeSlots d) (drop (hashOffset d) d))
-    ∙ take-take slotWidth (slotWidth * nCodeSlots d - slotWidth * i) (drop (slotWidth * i) (drop (hashOffset d) d)) (omega arith)
-    ∙ ap (take slotWidth) (drop-drop (slotWidth * i) (hashOffset d) d))
+    (ap (take (slotWidth d)) (drop-take (slotWidth d * i) (slotWidth d * nCodeSlots d) (drop (hashOffset d) d))
+    ∙ take-take (slotWidth d) (slotWidth d * nCodeSlots d - slotWidth d * i) (drop (slotWidth d * i) (drop (hashOffset d) d))
+    (omega (arith, slot-end (slotWidth d) i (nCodeSlots d) h))
+    ∙ ap (take (slotWidth d)) (drop-drop (slotWidth d * i) (hashOffset d) d))

@@ -16,8 +16,8 @@ use Rattle.directory.specs.Rows.{mostPages, mostSpecialSlots, directory,
 
 -- every slot lies between the head's end and the directory's
 pub record SlotsInside (d : List ℕ) : Type 0 where
-  pub special : (k : ℕ) → 0 < k → k ≤ nSpecialSlots d → (headOf d + slotWidth * k ≤ hashOffset d) × (hashOffset d - slotWidth * k + slotWidth ≤ length d)
-  pub code : (i : ℕ) → i < nCodeSlots d → (headOf d ≤ hashOffset d + slotWidth * i) × (hashOffset d + slotWidth * i + slotWidth ≤ length d)
+  pub special : (k : ℕ) → 0 < k → k ≤ nSpecialSlots d → (headOf d + slotWidth d * k ≤ hashOffset d) × (hashOffset d - slotWidth d * k + slotWidth d ≤ length d)
+  pub code : (i : ℕ) → i < nCodeSlots d → (headOf d ≤ hashOffset d + slotWidth d * i) × (hashOffset d + slotWidth d * i + slotWidth d ≤ length d)
 
 -- THE DIRECTORY, a blob d
 
@@ -26,7 +26,7 @@ pub record DirectoryFormed (d : List ℕ) : Type 0 where
   pub has-version : versionEnd ≤ length d
   pub has-head : headOf d ≤ length d
   pub hash-type : hashType d ≡ sha256Type
-  pub hash-size : hashSize d ≡ slotWidth
+  pub hash-size : hashSize d ≡ slotWidth d
   pub page-size : (pageSize d ≡ 0) ⊎ ((pageSize d ≡ 12) ⊎ (pageSize d ≡ 14))
   pub flags-allowed : BitsWithin (flags d) allowedFlags
   pub limit64-small : limit64Version ≤ version d → codeLimit64 d ≤ mostCodeLimit

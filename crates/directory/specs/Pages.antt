@@ -7,7 +7,7 @@ use mathlib.Core.Path.{_≡_}
 use Rattle.endian.specs.Numbers.{AllBytes}
 use Rattle.refusals.specs.Refusals.{_<?_, _≡?_, Says, pick}
 use Rattle.layout.specs.CodeDirectory.{version, codeLimit32, pageSize, codeLimit64}
-use Rattle.pages.specs.Pages.{pageBytes, pageCount}
+use Rattle.geometry.specs.Pages.{pageBytes, pageCount}
 use Rattle.directory.specs.Head.{limit64Version, since}
 
 -- the code limit: codeLimit64 where it is present and not 0, else codeLimit

@@ -7,11 +7,8 @@ use mathlib.Core.Bool.{cond}
 use lib.Bits.{bitOr}
 use lib.ListN.{length, getD, take, drop}
 use Rattle.refusals.specs.Refusals.{_<?_, _≤?_, _≡?_, _≢?_, _and_, _or_, Cond, holds, lowest, Row, row}
-use Rattle.digest.specs.Hash.{digest}
-use Rattle.digest.specs.Sha256.{sha256}
 use Rattle.layout.specs.SuperBlob.{count}
 use Rattle.layout.specs.CodeDirectory.{directoryType, sha256Type, allowedFlags, slotWidth, versionEnd, version, flags, hashOffset, identOffset, nSpecialSlots, nCodeSlots, hashSize, hashType, pageSize, scatterOffset, codeLimit64}
-use Rattle.layout.specs.TrustCache.{cdhashLength}
 use Rattle.superblob.specs.Rows.{rows, position, blobOf}
 use Rattle.directory.specs.Head.{firstVersion, lastVersion, scatterVersion, limit64Version, headOf, since}
 use Rattle.directory.specs.Pages.{mostCodeLimit, pages}
@@ -29,10 +26,6 @@ mostSpecialSlots = 11
 abbrev pub directory : List ℕ → List ℕ
 directory s = blobOf s directoryType
 
--- its hash covers the whole blob, head included, and is cut to 20 bytes
-unfoldable pub cdhash : List ℕ → List ℕ
-cdhash d = take cdhashLength (digest sha256 d)
-
 -- THE FLAGS: they hold a bit outside the allowed ones (specs/Flags.antt says it bit by bit)
 abbrev pub flagsOutside : List ℕ → Cond
 flagsOutside d = bitOr (flags d) allowedFlags ≢? allowedFlags
@@ -41,26 +34,26 @@ flagsOutside d = bitOr (flags d) allowedFlags ≢? allowedFlags
 
 -- code slot i, from 0
 unfoldable pub codeSlot : List ℕ → ℕ → List ℕ
-codeSlot d i = take slotWidth (drop (hashOffset d + slotWidth * i) d)
+codeSlot d i = take (slotWidth d) (drop (hashOffset d + slotWidth d * i) d)
 
 -- special slot k, from 1 to nSpecialSlots; nothing where k is another number
 unfoldable pub specialSlot : List ℕ → ℕ → List ℕ
-specialSlot d k = cond (holds (1 ≤? k and k ≤? nSpecialSlots d)) (take slotWidth (drop (hashOffset d - slotWidth * k) d)) []
+specialSlot d k = cond (holds (1 ≤? k and k ≤? nSpecialSlots d)) (take (slotWidth d) (drop (hashOffset d - slotWidth d * k) d)) []
 
 -- the code slots, one after the other
 unfoldable pub codeSlots : List ℕ → List ℕ
-codeSlots d = take (slotWidth * nCodeSlots d) (drop (hashOffset d) d)
+codeSlots d = take (slotWidth d * nCodeSlots d) (drop (hashOffset d) d)
 
 -- the special slots, where there are any, lie from hashOffset - slotWidth * nSpecialSlots up to hashOffset: one of them reaches before the
 -- head's end or past the directory
 unfoldable pub specialOutside : List ℕ → Cond
 specialOutside d =
-    0 <? nSpecialSlots d and (hashOffset d <? headOf d + slotWidth * nSpecialSlots d or length d <? hashOffset d)
+    0 <? nSpecialSlots d and (hashOffset d <? headOf d + slotWidth d * nSpecialSlots d or length d <? hashOffset d)
 
 -- .. and the code slots from hashOffset up to hashOffset + slotWidth * nCodeSlots
 unfoldable pub codeOutside : List ℕ → Cond
 codeOutside d =
-    0 <? nCodeSlots d and (hashOffset d <? headOf d or length d <? hashOffset d + slotWidth * nCodeSlots d)
+    0 <? nCodeSlots d and (hashOffset d <? headOf d or length d <? hashOffset d + slotWidth d * nCodeSlots d)
 
 -- THE IDENTIFIER
 
@@ -78,7 +71,7 @@ unfoldable pub fieldRows : List ℕ → List Row
 fieldRows d =
     row 11 (versionEnd ≤? length d and (version d <? firstVersion or lastVersion <? version d)) 0
     ∷ row 12 (length d <? versionEnd or length d <? headOf d) 0
-    ∷ row 13 (hashType d ≢? sha256Type or hashSize d ≢? slotWidth) 0
+    ∷ row 13 (hashType d ≢? sha256Type or hashSize d ≢? slotWidth d) 0
     ∷ row 14 (pageSize d ≢? 0 and pageSize d ≢? 12 and pageSize d ≢? 14) 0
     ∷ row 46 (flagsOutside d) 0
     ∷ row 15 (mostCodeLimit <? since limit64Version codeLimit64 d) 0

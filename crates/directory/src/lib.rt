@@ -6,13 +6,13 @@
 // large or its pages scattered, and where its slots are not those that its code limit asks for. The table of tests is specs/Rows.antt,
 // the head by its version specs/Head.antt, its code limit and its pages specs/Pages.antt.
 ghost use mathlib.Core.Path.{_≡_};
-ghost use Prim.Native.Nat.{_-_, _<_};
+ghost use Prim.Native.Nat.{_-_, _*_, _<_, _≤_};
 ghost use lib.ListN.{length};
 ghost use Rattle.refusals.specs.Refusals.{holds, first, accepted};
-ghost use Rattle.layout.specs.CodeDirectory.{identOffset, scatterOffset, codeLimit64};
+ghost use Rattle.layout.specs.CodeDirectory.{slotWidth, nSpecialSlots, nCodeSlots, identOffset, scatterOffset, codeLimit64};
 ghost use Rattle.directory.specs.Head.{scatterVersion, limit64Version, headSize, headOf, since};
 ghost use Rattle.directory.specs.Pages.{codeLimit, P, pages};
-ghost use Rattle.directory.specs.Rows.{specialOutside, codeOutside, identLength, fieldRows, slotRows, blobRows, signatureRows, specialSlot, codeSlots, cdhash};
+ghost use Rattle.directory.specs.Rows.{specialOutside, codeOutside, identLength, fieldRows, slotRows, blobRows, signatureRows, specialSlot, codeSlots};
 use layout::directory::CodeDirectory;
 use layout::parts::part;
 use refusals::Answer;
@@ -46,13 +46,6 @@ pub fn tested(sig: &[u8], side: usize) -> Answer
     answer(10, 0)
 }
 
-// The first 20 bytes of the directory's hash.
-pub fn cdhash(d: &[u8]) -> [u8; 20]
-    ensures { λ r. ⌜ r ≡ cdhash (now (d .entry)) ⌝ }
-{
-    digest::cut(digest::digest(d))
-}
-
 // The code limit: codeLimit64 where it is present and not 0, else codeLimit.
 pub fn code_limit(d: &[u8]) -> usize
     ensures { λ r. ⌜ r ≡ codeLimit (now (d .entry)) ⌝ }
@@ -77,10 +70,12 @@ pub fn special_slot<'a>(d: &'a [u8], k: usize) -> &'a [u8]
     if special < k {
         return part(d, 0, 0);
     }
-    if at / CodeDirectory::SLOT < k {
-        return part(d, 0, CodeDirectory::SLOT);
+    let back = slot_bytes(d, k);
+    let width = slot_width(d);
+    if at < back {
+        return part(d, 0, width);
     }
-    part(d, at - CodeDirectory::SLOT * k, CodeDirectory::SLOT)
+    part(d, at - back, width)
 }
 
 // The code slots, one after the other.
@@ -88,7 +83,7 @@ pub fn code_slots<'a>(d: &'a [u8]) -> &'a [u8]
     ensures { λ r. ⌜ now r ≡ codeSlots (now (d .entry)) ⌝ }
 {
     let head = CodeDirectory::read(d);
-    part(d, head.hash_offset, CodeDirectory::SLOT * head.code_slots)
+    part(d, head.hash_offset, code_bytes(d))
 }
 
 // Tests 11 to 18 of the directory whose blob is d.
@@ -121,10 +116,11 @@ fn fields_tested(d: &[u8]) -> Answer
     let flags = head.flags;
     let limit64 = limit64_of(d);
     let scatter = scatter_of(d);
+    let width = slot_width(d);
     if head.hash_type != CodeDirectory::SHA256 {
         return answer(13, 0);
     }
-    if head.hash_size != CodeDirectory::SLOT {
+    if head.hash_size != width {
         return answer(13, 0);
     }
     match shift {
@@ -184,7 +180,7 @@ fn special_outside(d: &[u8]) -> bool
     if special == 0 {
         return false;
     }
-    if head.hash_offset < head_of(d) + CodeDirectory::SLOT * special {
+    if head.hash_offset < head_of(d) + special_bytes(d) {
         return true;
     }
     if d.len() < head.hash_offset {
@@ -205,10 +201,39 @@ fn code_outside(d: &[u8]) -> bool
     if head.hash_offset < head_of(d) {
         return true;
     }
-    if d.len() < head.hash_offset + CodeDirectory::SLOT * code {
+    if d.len() < head.hash_offset + code_bytes(d) {
         return true;
     }
     false
+}
+
+// Bytes of each slot, by the directory's hash kind.
+fn slot_width(d: &[u8]) -> usize
+    ensures { λ r. ⌜ (r ≡ slotWidth (now (d .entry))) × (r ≤ 48) ⌝ }
+{
+    CodeDirectory::slot_width(CodeDirectory::read(d).hash_type)
+}
+
+// Bytes of n slots, below 2^32 times the widest, 48. Every place of a slot goes by this product.
+fn slot_bytes(d: &[u8], n: usize) -> usize
+    requires { ⌜ n < 4294967296 ⌝ }
+    ensures { λ r. ⌜ (r ≡ slotWidth (now (d .entry)) * n) × (r < 206158430208) ⌝ }
+{
+    CodeDirectory::slot_bytes(CodeDirectory::read(d).hash_type, n)
+}
+
+// Bytes of the special slots.
+fn special_bytes(d: &[u8]) -> usize
+    ensures { λ r. ⌜ (r ≡ slotWidth (now (d .entry)) * nSpecialSlots (now (d .entry))) × (r < 206158430208) ⌝ }
+{
+    slot_bytes(d, CodeDirectory::read(d).special_slots)
+}
+
+// Bytes of the code slots.
+fn code_bytes(d: &[u8]) -> usize
+    ensures { λ r. ⌜ (r ≡ slotWidth (now (d .entry)) * nCodeSlots (now (d .entry))) × (r < 206158430208) ⌝ }
+{
+    slot_bytes(d, CodeDirectory::read(d).code_slots)
 }
 
 // The head size that the version asks for; 0 where the version is refused.
@@ -259,14 +284,14 @@ fn scatter_of(d: &[u8]) -> usize
 pub fn page_size(d: &[u8]) -> usize
     ensures { λ r. ⌜ r ≡ P (now (d .entry)) ⌝ }
 {
-    pages::page_bytes(CodeDirectory::read(d).page_shift, code_limit(d))
+    geometry::page_bytes(CodeDirectory::read(d).page_shift, code_limit(d))
 }
 
 // The pages that the code limit makes.
 fn page_count(d: &[u8]) -> usize
     ensures { λ r. ⌜ r ≡ pages (now (d .entry)) ⌝ }
 {
-    pages::page_count(page_size(d), code_limit(d))
+    geometry::page_count(page_size(d), code_limit(d))
 }
 
 // Bytes from the identifier's start to the directory's end.

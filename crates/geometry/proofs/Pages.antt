@@ -10,7 +10,7 @@ use lib.Dec.{eqb}
 use borrow.Author.Tests.{eqb-true, eqb-false}
 use Rattle.refusals.specs.Refusals.{_≡?_}
 use Rattle.refusals.proofs.Conditions.{pick-yes, pick-no}
-use Rattle.pages.specs.Pages.{Fit, pageBytes, PagePower, pageCount, pageEnd, metFirst, metEnd, metStop, wanted, Shared}
+use Rattle.geometry.specs.Pages.{Fit, pageBytes, PagePower, pageCount, pageEnd, metFirst, metEnd, metStop, wanted, Shared}
 
 -- THE PAGE SIZE
 

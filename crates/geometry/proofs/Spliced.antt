@@ -1,4 +1,4 @@
--- The image with lent bytes put in: its pages, and that a recheck's marks are the marks of that image.
+-- The image with lent bytes put in, by its pages.
 use Prim.Native.Nat.{ℕ, zero, suc, _+_, _-_, _*_, _/_, _≤_, _<_}
 use mathlib.Core.Path.{_≡_, refl, sym, ap, ap₂, subst, _∙_}
 use mathlib.Core.Logic.{_⊎_, ⊎-elim}
@@ -10,10 +10,9 @@ use borrow.Author.Tests.{ltb-true, ltb-false}
 use lib.Dec.{ltb}
 use lib.ListN.{length, getD, drop}
 use lib.Seq.{ext-getD, getD-drop}
-use Rattle.pages.specs.Pages.{Fit, pageCount, pageEnd, part, pageOf, metFirst, metEnd, metStop, wanted, splice}
-use Rattle.pages.specs.Marks.{markOf, marksOf, marksFrom, remarked}
-use Rattle.pages.proofs.Pages.{fit-pos, of-count, first-below, end-above, met-le, met-count, begin-stop, page-before, page-inside, page-after}
-use Rattle.pages.proofs.Lists.{part-at, part-part, splice-none, splice-length, splice-before, splice-inside, splice-after, splice-past, tab-splice}
+use Rattle.geometry.specs.Pages.{Fit, pageCount, pageEnd, part, pageOf, metFirst, metEnd, metStop, wanted, splice}
+use Rattle.geometry.proofs.Pages.{fit-pos, of-count, first-below, end-above, begin-stop, page-before, page-inside, page-after}
+use Rattle.geometry.proofs.Parts.{part-at, part-part, splice-none, splice-length, splice-before, splice-inside, splice-after, splice-past}
 
 -- A RECHECK'S LENT BYTES: of a range below the limit, and as long as the pages met
 module _ (p limit : ℕ) (image : List ℕ) (start size : ℕ) (bytes : List ℕ)
@@ -54,21 +53,6 @@ module _ (p limit : ℕ) (image : List ℕ) (start size : ℕ) (bytes : List ℕ
   page-met i h u =
       splice-inside image (p * metFirst p start size) bytes lent-within (p * i) (pageEnd p limit i) (mul-le-mul-left p h)
       (omega (arith, lent-end, page-inside p limit start size i u))
-
-  -- the marks of the pages met, put among those of the image, are the marks of the image with the lent bytes put in
-  pub remarked-marks : (slots : List ℕ) → Fit p limit
-      → remarked p limit slots start size bytes (marksOf p limit slots image) ≡ marksOf p limit slots (splice image (p * metFirst p start size) bytes)
-  unfolding remarked marksOf marksFrom
-  remarked-marks slots f =
-      tab-splice (pageCount p limit) (metFirst p start size) (metEnd p start size)
-      (λ i. markOf slots i (pageOf p limit i image))
-      (λ i. markOf slots i (pageOf p limit i (splice image (p * metFirst p start size) bytes)))
-      (λ i. markOf slots i (part bytes (p * i - p * metFirst p start size) (pageEnd p limit i - p * metFirst p start size)))
-      (met-le p start size)
-      (met-count p limit start size f below)
-      (λ k h. ap (markOf slots k) (sym (page-early k h)))
-      (λ k h u. ap (markOf slots k) (sym (page-met k h u)))
-      (λ k h u. ap (markOf slots k) (sym (page-late k h)))
 
   -- lent the bytes of another image, a page met is that image's
   pub page-lent : (other : List ℕ) → bytes ≡ part other (p * metFirst p start size) (metStop p limit start size)

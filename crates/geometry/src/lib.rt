@@ -1,10 +1,12 @@
-// The arithmetic of pages, and of the pages that a range meets. No sum wraps: a range is tested against the code limit by
-// differences.
+// The arithmetic of pages, and of the pages that a range meets, with tests 32 and 33 (document 01, "Pages").
+//
+// A page is P bytes of the image, the last one short where the code limit ends it. No sum wraps: a range is tested against the code
+// limit by differences.
 use refusals::Answer;
 ghost use mathlib.Core.Path.{_≡_};
 ghost use Prim.Native.Nat.{_+_, _*_, _<_, _≤_, _^_};
 ghost use Rattle.refusals.specs.Refusals.{first, accepted};
-ghost use Rattle.pages.specs.Pages.{pageBytes, pageCount, pageEnd, metFirst, metEnd, wanted, rangeRows};
+ghost use Rattle.geometry.specs.Pages.{pageBytes, pageCount, pageEnd, metFirst, metEnd, wanted, rangeRows};
 
 // The page sizes that a pageSize field of 12 and of 14 stands for.
 const SMALL: usize = 4096;
@@ -73,7 +75,7 @@ pub fn end_met(p: usize, start: usize, size: usize) -> usize
 }
 
 // The bytes of the pages that a range below the limit meets.
-pub fn wanted_bytes(p: usize, limit: usize, start: usize, size: usize) -> usize
+fn wanted_bytes(p: usize, limit: usize, start: usize, size: usize) -> usize
     requires { ⌜ start + size ≤ limit ⌝ }
     ensures { λ r. ⌜ r ≡ wanted p limit start size ⌝ }
 {

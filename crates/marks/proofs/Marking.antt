@@ -11,15 +11,14 @@ use lib.Seq.{drop-drop, length-take-le}
 use Rattle.refusals.specs.declared.Answer.{Answer}
 use Rattle.refusals.specs.Refusals.{holds, lowest, refuse, first, Passes}
 use Rattle.refusals.proofs.Positions.{none-fails}
-use Rattle.digest.specs.Hash.{digest}
-use Rattle.digest.specs.Sha256.{sha256}
+use Rattle.digest.specs.Kinds.{digestOf}
 use Rattle.digest.specs.Same.{same}
 use Rattle.digest.proofs.Equality.{same-equal, equal-same}
-use Rattle.layout.specs.CodeDirectory.{slotWidth}
-use Rattle.pages.specs.Pages.{pageCount, pageEnd, part, pageOf, metFirst, metEnd}
-use Rattle.pages.specs.Marks.{slotAt, agrees, AgreesExactly, markOf, marksOf, markIn, marksFrom, remarked, neither, differs, markRows, badRows, judged, PageHere, PagesHere, RangeHere}
-use Rattle.pages.proofs.Pages.{met-le, met-count}
-use Rattle.pages.proofs.Lists.{part-below, tab-length, tab-at, tab-same}
+use Rattle.geometry.specs.Pages.{pageCount, pageEnd, part, pageOf, metFirst, metEnd}
+use Rattle.marks.specs.Marks.{Slots, width, slotAt, agrees, AgreesExactly, markOf, marksOf, markIn, marksFrom, remarked, neither, differs, markRows, badRows, judged, PageHere, PagesHere, RangeHere}
+use Rattle.geometry.proofs.Pages.{met-le, met-count}
+use Rattle.geometry.proofs.Parts.{part-below}
+use Rattle.marks.proofs.Tabs.{tab-length, tab-at, tab-same}
 
 -- WHAT A MARK SAYS
 
@@ -27,44 +26,44 @@ pub agrees-equal : AgreesExactly
 unfolding agrees
 agrees-equal slots i bytes = (λ e. same-equal _ _ e, λ e. equal-same _ _ e)
 
-mark-of : (slots : List ℕ) (i : ℕ) (bytes : List ℕ) (b : Bool) → b ≡ agrees slots i bytes → cond {A = ℕ} b 0 1 ≡ markOf slots i bytes
+mark-of : (slots : Slots) (i : ℕ) (bytes : List ℕ) (b : Bool) → b ≡ agrees slots i bytes → cond {A = ℕ} b 0 1 ≡ markOf slots i bytes
 unfolding markOf
 mark-of slots i bytes b e = ap (λ (t : Bool). cond {A = ℕ} t 0 1) e
 
-pub mark-zero : (slots : List ℕ) (i : ℕ) (bytes : List ℕ) → true ≡ agrees slots i bytes → 0 ≡ markOf slots i bytes
+pub mark-zero : (slots : Slots) (i : ℕ) (bytes : List ℕ) → true ≡ agrees slots i bytes → 0 ≡ markOf slots i bytes
 mark-zero slots i bytes e = mark-of slots i bytes true e
 
-pub mark-one : (slots : List ℕ) (i : ℕ) (bytes : List ℕ) → false ≡ agrees slots i bytes → 1 ≡ markOf slots i bytes
+pub mark-one : (slots : Slots) (i : ℕ) (bytes : List ℕ) → false ≡ agrees slots i bytes → 1 ≡ markOf slots i bytes
 mark-one slots i bytes e = mark-of slots i bytes false e
 
 -- as the code finds it, from the slot cut out of the slots
-slot-cut : (slots : List ℕ) (n : ℕ) → part slots (slotWidth * n) (slotWidth * n + slotWidth) ≡ slotAt slots n
+slot-cut : (slots : Slots) (n : ℕ) → part (slots .bytes) (width slots * n) (width slots * n + width slots) ≡ slotAt slots n
 unfolding slotAt
 slot-cut slots n =
-    let e : slotWidth * n + slotWidth - slotWidth * n ≡ slotWidth = omega arith in
+    let e : width slots * n + width slots - width slots * n ≡ width slots = omega arith in
     rw e
 
-cut-agrees : (slots bytes : List ℕ) (n a e f : ℕ) (b : Bool)
-    → b ≡ same (digest sha256 (part bytes a e)) (part slots (slotWidth * n) (slotWidth * n + slotWidth)) → e ≡ f → b ≡ agrees slots n (part bytes a f)
+cut-agrees : (slots : Slots) (bytes : List ℕ) (n a e f : ℕ) (b : Bool)
+    → b ≡ same (digestOf (slots .kind) (part bytes a e)) (part (slots .bytes) (width slots * n) (width slots * n + width slots)) → e ≡ f → b ≡ agrees slots n (part bytes a f)
 unfolding agrees
 cut-agrees slots bytes n a e f b h q =
-    h ∙ ap (same (digest sha256 (part bytes a e))) (slot-cut slots n) ∙ ap (λ (x : ℕ). same (digest sha256 (part bytes a x)) (slotAt slots n)) q
+    h ∙ ap (same (digestOf (slots .kind) (part bytes a e))) (slot-cut slots n) ∙ ap (λ (x : ℕ). same (digestOf (slots .kind) (part bytes a x)) (slotAt slots n)) q
 
-pub cut-mark : (slots bytes : List ℕ) (n a e f v : ℕ) (b : Bool)
-    → b ≡ same (digest sha256 (part bytes a e)) (part slots (slotWidth * n) (slotWidth * n + slotWidth)) → e ≡ f
+pub cut-mark : (slots : Slots) (bytes : List ℕ) (n a e f v : ℕ) (b : Bool)
+    → b ≡ same (digestOf (slots .kind) (part bytes a e)) (part (slots .bytes) (width slots * n) (width slots * n + width slots)) → e ≡ f
     → v ≡ cond {A = ℕ} b 0 1 → v ≡ markOf slots n (part bytes a f)
 cut-mark slots bytes n a e f v b h q w = w ∙ mark-of slots n (part bytes a f) b (cut-agrees slots bytes n a e f b h q)
 
 -- the mark is 0 exactly when the slot holds the digest
-pub mark-exact : (slots : List ℕ) (i : ℕ) (bytes : List ℕ) → (markOf slots i bytes ≡ 0) ↔ (digest sha256 bytes ≡ slotAt slots i)
+pub mark-exact : (slots : Slots) (i : ℕ) (bytes : List ℕ) → (markOf slots i bytes ≡ 0) ↔ (digestOf (slots .kind) bytes ≡ slotAt slots i)
 mark-exact slots i bytes = (by-test (agrees slots i bytes) refl, λ e. sym (mark-zero slots i bytes (sym (agrees-equal slots i bytes .1 e))))
   where
-    by-test : (b : Bool) → b ≡ agrees slots i bytes → markOf slots i bytes ≡ 0 → digest sha256 bytes ≡ slotAt slots i
+    by-test : (b : Bool) → b ≡ agrees slots i bytes → markOf slots i bytes ≡ 0 → digestOf (slots .kind) bytes ≡ slotAt slots i
     by-test true e h = agrees-equal slots i bytes .0 (sym e)
     by-test false e h = absurd (omega (arith, mark-one slots i bytes e))
 
 -- else it is 1
-pub mark-small : (slots : List ℕ) (i : ℕ) (bytes : List ℕ) → markOf slots i bytes ≤ 1
+pub mark-small : (slots : Slots) (i : ℕ) (bytes : List ℕ) → markOf slots i bytes ≤ 1
 mark-small slots i bytes = by-test (agrees slots i bytes) refl
   where
     by-test : (b : Bool) → b ≡ agrees slots i bytes → markOf slots i bytes ≤ 1
@@ -73,11 +72,11 @@ mark-small slots i bytes = by-test (agrees slots i bytes) refl
 
 -- THE MARKS OF AN IMAGE
 
-pub marks-length : (p limit : ℕ) (slots image : List ℕ) → length (marksOf p limit slots image) ≡ pageCount p limit
+pub marks-length : (p limit : ℕ) (slots : Slots) (image : List ℕ) → length (marksOf p limit slots image) ≡ pageCount p limit
 unfolding marksOf
 marks-length p limit slots image = tab-length 0 (pageCount p limit) (λ i. markOf slots i (pageOf p limit i image))
 
-pub marks-at : (p limit : ℕ) (slots image : List ℕ) (i : ℕ) → i < pageCount p limit
+pub marks-at : (p limit : ℕ) (slots : Slots) (image : List ℕ) (i : ℕ) → i < pageCount p limit
     → getD (marksOf p limit slots image) i 0 ≡ markOf slots i (pageOf p limit i image)
 unfolding marksOf
 marks-at p limit slots image i h =
@@ -85,11 +84,11 @@ marks-at p limit slots image i h =
     ∙ ap (λ (k : ℕ). markOf slots k (pageOf p limit k image)) (zero-add i)
 
 -- each is 0 or 1, so that test 34 passes
-pub marks-small : (p limit : ℕ) (slots image : List ℕ) (i : ℕ) → i < pageCount p limit → getD (marksOf p limit slots image) i 0 ≤ 1
+pub marks-small : (p limit : ℕ) (slots : Slots) (image : List ℕ) (i : ℕ) → i < pageCount p limit → getD (marksOf p limit slots image) i 0 ≤ 1
 marks-small p limit slots image i h =
     omega (arith, marks-at p limit slots image i h, mark-small slots i (pageOf p limit i image))
 
-pub marks-pass : (p limit : ℕ) (slots image : List ℕ) → Passes (markRows (marksOf p limit slots image))
+pub marks-pass : (p limit : ℕ) (slots : Slots) (image : List ℕ) → Passes (markRows (marksOf p limit slots image))
 unfolding markRows neither
 marks-pass p limit slots image =
     let n = marks-length p limit slots image in
@@ -98,7 +97,7 @@ marks-pass p limit slots image =
     (omega arith, tt)
 
 -- marks depend on the bytes below the limit alone
-pub marks-below : (p limit : ℕ) (slots image other : List ℕ) → take limit image ≡ take limit other
+pub marks-below : (p limit : ℕ) (slots : Slots) (image other : List ℕ) → take limit image ≡ take limit other
     → marksOf p limit slots image ≡ marksOf p limit slots other
 unfolding marksOf
 marks-below p limit slots image other e =
@@ -109,7 +108,7 @@ marks-below p limit slots image other e =
     ∙ sym (part-below other limit (p * k) (pageEnd p limit k) (min-le-right (p * (k + 1)) limit))))
 
 -- the marks of all pages, from the image itself
-pub whole-marks : (p limit : ℕ) (slots image : List ℕ) (n : ℕ) → n ≡ pageCount p limit → marksFrom p limit slots 0 n image ≡ marksOf p limit slots image
+pub whole-marks : (p limit : ℕ) (slots : Slots) (image : List ℕ) (n : ℕ) → n ≡ pageCount p limit → marksFrom p limit slots 0 n image ≡ marksOf p limit slots image
 unfolding marksFrom marksOf
 whole-marks p limit slots image n e =
     rw e (tab-same 0 (pageCount p limit) (markIn p limit slots 0 image) (λ i. markOf slots i (pageOf p limit i image)) (λ k l u. simp (mul-zero, sub-zero)))
@@ -139,7 +138,7 @@ judged-number marks place = by-test (holds _)
 -- WHAT THE ROUTINE IS LENT
 
 -- each of the pages is there
-pub page-of : (p limit : ℕ) (slots : List ℕ) (first n : ℕ) (bytes : List ℕ) (i : ℕ) → PagesHere p limit slots first n bytes → i < n
+pub page-of : (p limit : ℕ) (slots : Slots) (first n : ℕ) (bytes : List ℕ) (i : ℕ) → PagesHere p limit slots first n bytes → i < n
     → PageHere p limit slots first (first + i) bytes
 page-of p limit slots first n bytes i h u =
     record {
@@ -150,7 +149,7 @@ page-of p limit slots first n bytes i h u =
     }
 
 -- all pages, in an image that reaches the limit
-pub whole-here : (p limit : ℕ) (slots image : List ℕ) (n : ℕ) → n ≡ pageCount p limit → slotWidth * n ≤ length slots → limit ≤ length image
+pub whole-here : (p limit : ℕ) (slots : Slots) (image : List ℕ) (n : ℕ) → n ≡ pageCount p limit → width slots * n ≤ length (slots .bytes) → limit ≤ length image
     → PagesHere p limit slots 0 n image
 whole-here p limit slots image n e h u =
     record {
@@ -163,7 +162,7 @@ whole-here p limit slots image n e h u =
 pub cut-length : (first end : ℕ) (marks : List ℕ) → first ≤ end → end ≤ length marks → length (take (end - first) (drop first marks)) ≡ end - first
 cut-length first end marks h u = length-take-le (end - first) (drop first marks) (omega (arith, length-drop first marks))
 
-module _ (p limit : ℕ) (slots : List ℕ) (start size : ℕ) (bytes marks : List ℕ) (h : RangeHere p limit slots start size bytes marks) where
+module _ (p limit : ℕ) (slots : Slots) (start size : ℕ) (bytes marks : List ℕ) (h : RangeHere p limit slots start size bytes marks) where
   pub cut-order : metFirst p start size ≤ metEnd p start size
   cut-order = met-le p start size
 

@@ -1,30 +1,16 @@
--- What the answers of tests 31 to 34 say, both ways.
-use Prim.Native.Nat.{ℕ, _+_, _<_, _≤_}
+-- What the answers of test 31 say, both ways.
+use Prim.Native.Nat.{ℕ, _<_}
 use mathlib.Core.Bool.{false}
 use mathlib.Core.Path.{_≡_}
 use mathlib.Core.List.{List}
 use native.Mathlib.Omega.{arith}
 use lib.ListN.{length, getD}
-use Rattle.refusals.specs.Refusals.{LowestAt, refuse, Passes}
+use Rattle.refusals.specs.Refusals.{LowestAt, refuse}
 use Rattle.refusals.proofs.Conditions.{said}
 use Rattle.refusals.proofs.Plain.{over-plainly}
-use Rattle.refusals.proofs.Exact.{Unused, decides, decided, passes, passed}
+use Rattle.refusals.proofs.Exact.{decides, decided, passes, passed}
 use Rattle.refusals.proofs.Positions.{lowest-below, none-fails}
-use Rattle.pages.specs.Pages.{wanted, rangeRows}
-use Rattle.pages.specs.Marks.{differs, badRows, judged}
-
--- THE RANGE, 32 AND 33
-
-pub range-unused : (p limit start size n : ℕ) → Unused (rangeRows p limit start size n) 0
-unfolding rangeRows
-range-unused p limit start size n = tt
-
--- a range that passes lies below the limit and is lent the bytes of the pages met
-pub range-passed : (p limit start size n : ℕ) → Passes (rangeRows p limit start size n) → (start + size ≤ limit) × (n ≡ wanted p limit start size)
-unfolding rangeRows
-range-passed p limit start size n h = (h .0, h .1 .0)
-
--- THE ANSWER, 31
+use Rattle.marks.specs.Marks.{differs, badRows, judged}
 
 -- 31 is given exactly with the lowest page that is marked 1 ...
 pub judged-bad : (marks : List ℕ) (place i : ℕ) → LowestAt (differs marks) (length marks) i → refuse 31 i ≡ judged marks place

@@ -1,38 +1,57 @@
-// Marks of pages: written, tested and judged.
-use super::geometry::page_end;
+// Marks of pages: written, tested and judged, with tests 31 and 34 (document 01, "Pages").
+//
+// The mark of a page is 0 where the digest of its bytes is what its code slot holds, and 1 where it is not. One routine hashes pages
+// and writes marks, for every hash kind.
+use geometry::page_end;
 use layout::directory::CodeDirectory;
 use refusals::Answer;
 ghost use mathlib.Core.Path.{_≡_};
 ghost use lib.ListN.{length};
 ghost use Rattle.refusals.specs.Refusals.{lowest, first, accepted};
-ghost use Rattle.pages.specs.Marks.{markIn, marksFrom, neither, differs, markRows, judged, PageHere, PagesHere};
+ghost use Rattle.marks.specs.Marks.{slotsOfKind, markIn, marksFrom, neither, differs, markRows, judged, PageHere, PagesHere};
 
 // The mark of page n, of bytes that begin where page `from` begins. The page is hashed where it lies.
-fn mark_page(p: usize, limit: usize, slots: &[u8], from: usize, n: usize, bytes: &[u8]) -> u8
-    requires { ⌜ PageHere p limit (now slots) from n (now bytes) ⌝ }
-    ensures { λ r. ⌜ r ≡ markIn p limit (now (slots .entry)) from (now (bytes .entry)) n ⌝ }
+fn mark_page(
+    p: usize,
+    limit: usize,
+    kind: usize,
+    slots: &[u8],
+    from: usize,
+    n: usize,
+    bytes: &[u8],
+) -> u8
+    requires { ⌜ PageHere p limit (slotsOfKind kind (now slots)) from n (now bytes) ⌝ }
+    ensures { λ r. ⌜ r ≡ markIn p limit (slotsOfKind kind (now (slots .entry))) from (now (bytes .entry)) n ⌝ }
 {
     let base = p * from;
     let start = p * n - base;
     let end = page_end(p, limit, n) - base;
-    let slot = CodeDirectory::SLOT * n;
-    let next = slot + CodeDirectory::SLOT;
-    if digest::agrees(&bytes[start..end], &slots[slot..next]) {
+    let slot = CodeDirectory::slot_bytes(kind, n);
+    let next = slot + CodeDirectory::slot_width(kind);
+    if digest::agrees(kind, &bytes[start..end], &slots[slot..next]) {
         0
     } else {
         1
     }
 }
 
-// Hashes the pages from `from` on, one for each mark, and writes their marks. The bytes begin where page `from` begins: the image
+// Hashes the pages from `from` on by the slots' kind, one for each mark, and writes their marks. The bytes begin where page `from` begins: the image
 // itself for all pages, or what is lent for the pages that a range meets.
-pub fn mark_pages(p: usize, limit: usize, slots: &[u8], from: usize, bytes: &[u8], marks: &mut [u8])
-    requires { ⌜ PagesHere p limit (now slots) from (length (now marks)) (now bytes) ⌝ }
-    ensures { λ r. ⌜ now (marks .exit) ≡ marksFrom p limit (now (slots .entry)) from (length (now (marks .entry))) (now (bytes .entry)) ⌝ }
+pub fn mark_pages(
+    p: usize,
+    limit: usize,
+    kind: usize,
+    slots: &[u8],
+    from: usize,
+    bytes: &[u8],
+    marks: &mut [u8],
+)
+    requires { ⌜ PagesHere p limit (slotsOfKind kind (now slots)) from (length (now marks)) (now bytes) ⌝ }
+    ensures { λ r. ⌜ now (marks .exit) ≡ marksFrom p limit (slotsOfKind kind (now (slots .entry))) from (length (now (marks .entry))) (now (bytes .entry)) ⌝ }
 {
     let mut i = 0;
     while i < marks.len() {
-        let m = mark_page(p, limit, slots, from, from + i, bytes);
+        let m = mark_page(p, limit, kind, slots, from, from + i, bytes);
         marks[i] = m;
         i += 1;
     }

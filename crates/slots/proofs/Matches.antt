@@ -8,8 +8,8 @@ use mathlib.Core.Path.{_≡_, refl, sym, ap, _∙_}
 use native.Mathlib.Omega.{arith}
 use lib.Dec.{eqb}
 use borrow.Author.Tests.{eqb-true, eqb-false, ne-eqb}
-use Rattle.digest.specs.Hash.{digest}
-use Rattle.digest.specs.Sha256.{sha256}
+use Rattle.sha.specs.Hash.{digest}
+use Rattle.sha.specs.Sha2.{sha256}
 use Rattle.digest.specs.Same.{same}
 use Rattle.digest.proofs.Equality.{same-equal, equal-same}
 use Rattle.refusals.specs.Ranges.{lookup}

@@ -5,8 +5,8 @@ use mathlib.Core.List.{List}
 use mathlib.Core.Logic.{_⊎_, _↔_}
 use mathlib.Core.Path.{_≡_}
 use lib.ListN.{getD}
-use Rattle.digest.specs.Hash.{digest}
-use Rattle.digest.specs.Sha256.{sha256}
+use Rattle.sha.specs.Hash.{digest}
+use Rattle.sha.specs.Sha2.{sha256}
 use Rattle.refusals.specs.Refusals.{Passes}
 use Rattle.layout.specs.SuperBlob.{count, typeAt}
 use Rattle.layout.specs.CodeDirectory.{infoSlot, resourcesSlot}

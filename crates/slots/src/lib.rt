@@ -5,13 +5,14 @@
 // test's definition is specs/Slots.antt, and its plain reading specs/Matches.antt.
 ghost use mathlib.Core.Path.{_≡_};
 ghost use Rattle.refusals.specs.Refusals.{lowest, faulty, first, accepted};
-ghost use Rattle.digest.specs.Hash.{digest};
-ghost use Rattle.digest.specs.Sha256.{sha256};
+ghost use Rattle.sha.specs.Hash.{digest};
+ghost use Rattle.sha.specs.Sha2.{sha256};
 ghost use Rattle.digest.specs.Same.{same};
 ghost use Prim.Native.Nat.{_+_};
 ghost use Rattle.directory.specs.Rows.{mostSpecialSlots};
 ghost use Rattle.slots.specs.Slots.{sides, allZero, faultOf, fault, specialRows};
 use directory::MOST_SPECIAL_SLOTS;
+use layout::directory::CodeDirectory;
 use refusals::Answer;
 use refusals::answers::answer;
 
@@ -90,7 +91,7 @@ fn fault_of(slot: &[u8], there: bool, thing: &[u8]) -> u32
         return 0;
     }
     if there {
-        if digest::agrees(thing, slot) {
+        if digest::agrees(CodeDirectory::SHA256, thing, slot) {
             return 0;
         }
         return 22;

@@ -13,13 +13,14 @@ use Rattle.refusals.proofs.Positions.{none-fails}
 use Rattle.refusals.proofs.Exact.{passes-zero}
 use Rattle.layout.specs.SuperBlob.{count, typeAt, offsetAt, blobLength}
 use Rattle.layout.specs.CodeDirectory.{directoryType, version, flags, hashOffset, identOffset, nSpecialSlots, nCodeSlots, codeLimit32, hashSize, hashType, platform, pageSize, codeLimit64}
-use Rattle.pages.specs.Pages.{pageBytes}
+use Rattle.geometry.specs.Pages.{pageBytes}
 use Rattle.superblob.specs.Rows.{rows, ofType, position, has, present, startOf, blobAt, blobOf, blobStart, blobEnd, blob}
 use Rattle.superblob.proofs.Numbers.{rows-exact}
 use Rattle.superblob.proofs.Formed.{formed, formed-exactly}
 use Rattle.superblob.proofs.Lookup.{at-position, has-position, blob-found, lookups}
 use Rattle.directory.specs.Pages.{codeLimit, P}
-use Rattle.directory.specs.Rows.{directory, cdhash}
+use Rattle.directory.specs.Rows.{directory}
+use Rattle.cdhash.specs.Hash.{cdhash}
 use Rattle.directory.specs.Formed.{DirectoryFormed, SignatureFormed}
 use Rattle.directory.proofs.Numbers.{signatureRows-exact}
 use Rattle.directory.proofs.Pages.{limit-plainly}

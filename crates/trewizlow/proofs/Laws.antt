@@ -13,7 +13,8 @@ use Rattle.superblob.specs.declared.Span.{Span}
 use Rattle.superblob.specs.Rows.{Found, startOf, blobStart, blobEnd, blob}
 use Rattle.layout.specs.CodeDirectory.{directoryType}
 use Rattle.layout.specs.TrustCache.{cdhashLength}
-use Rattle.directory.specs.Rows.{directory, cdhash}
+use Rattle.directory.specs.Rows.{directory}
+use Rattle.cdhash.specs.Hash.{cdhash}
 use Rattle.trewizlow.specs.Interface.{readAnswer, readable, fieldsOf, noFields, directoryFields, hashWith, directoryHash}
 
 pub span-length : (s : List ℕ) (t : ℕ) (r : Span) → Found s t r → r .end - r .start ≡ length (blob s t)

@@ -10,7 +10,8 @@ use Rattle.layout.specs.CodeDirectory.{directoryType, version, flags, hashOffse
 use Rattle.layout.specs.TrustCache.{cdhashLength}
 use Rattle.superblob.specs.Rows.{rows, startOf, blobStart, blob}
 use Rattle.directory.specs.Pages.{codeLimit, P}
-use Rattle.directory.specs.Rows.{directory, cdhash, identLength, signatureRows}
+use Rattle.directory.specs.Rows.{directory, identLength, signatureRows}
+use Rattle.cdhash.specs.Hash.{cdhash}
 use Rattle.trewizlow.specs.declared.BlobPart.{BlobPart}
 use Rattle.trewizlow.specs.declared.DirectoryFields.{DirectoryFields}
 use Rattle.trewizlow.specs.declared.DirectoryHash.{DirectoryHash}

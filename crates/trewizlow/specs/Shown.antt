@@ -5,8 +5,8 @@ use mathlib.Core.List.{List}
 use mathlib.Core.Path.{_≡_}
 use lib.ListN.{getD, take, drop, replicate}
 use Rattle.endian.specs.Numbers.{big}
-use Rattle.digest.specs.Hash.{digest}
-use Rattle.digest.specs.Sha256.{sha256}
+use Rattle.sha.specs.Hash.{digest}
+use Rattle.sha.specs.Sha2.{sha256}
 use Rattle.refusals.specs.Refusals.{refuse, accepted, first}
 use Rattle.superblob.specs.Rows.{rows, blob}
 use Rattle.directory.specs.Rows.{directory, signatureRows}

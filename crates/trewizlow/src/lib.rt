@@ -196,7 +196,7 @@ pub extern "C" fn trewizlow_cdhash(signature: &[u8]) -> DirectoryHash
             hash: [0; 20],
         };
     }
-    let hash = directory::cdhash(superblob::blob_of(signature, CodeDirectory::TYPE));
+    let hash = cdhash::cdhash(superblob::blob_of(signature, CodeDirectory::TYPE));
     DirectoryHash {
         number: answer.number,
         place: answer.place,

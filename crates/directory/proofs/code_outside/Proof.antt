@@ -21,8 +21,8 @@ returns-2 : tie.Need-returns-2
 unfolding codeOutside
 returns-2 c = says true _ (omega arith)
 
-mul-if3 : tie.Need-mul-if3
-mul-if3 c = search needs
+code-bytes-requires : tie.Need-code-bytes-requires
+code-bytes-requires c κs = search needs
 
 add-if3 : tie.Need-add-if3
 add-if3 c = search needs
@@ -38,4 +38,4 @@ returns-4 c = says false _ (omega arith)
 pub code-outside-spec : {M : Type 1} → statement M
 code-outside-spec =
     tie.close
-    (tie.spec read-requires returns head-of-requires returns-2 mul-if3 add-if3 returns-3 returns-4)
+    (tie.spec read-requires returns head-of-requires returns-2 code-bytes-requires add-if3 returns-3 returns-4)

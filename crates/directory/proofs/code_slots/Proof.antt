@@ -7,8 +7,8 @@ use Rattle.directory.proofs.code_slots.Tie as tie
 read-requires : tie.Need-read-requires
 read-requires c κs = search needs
 
-mul-part : tie.Need-mul-part
-mul-part c = search needs
+code-bytes-requires : tie.Need-code-bytes-requires
+code-bytes-requires c κs = search needs
 
 part-requires : tie.Need-part-requires
 part-requires c κs = search needs
@@ -18,4 +18,4 @@ unfolding codeSlots
 returns c = cc
 
 pub code-slots-spec : {M : Type 1} → statement M
-code-slots-spec = tie.close (tie.spec read-requires mul-part part-requires returns)
+code-slots-spec = tie.close (tie.spec read-requires code-bytes-requires part-requires returns)

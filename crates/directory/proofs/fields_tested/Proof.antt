@@ -60,13 +60,16 @@ limit64-of-requires c κs = search needs
 scatter-of-requires : tie.Need-scatter-of-requires
 scatter-of-requires c κs = search needs
 
+slot-width-requires : tie.Need-slot-width-requires
+slot-width-requires c κs = search needs
+
 answer-requires-4 : tie.Need-answer-requires-4
 answer-requires-4 c κs = search needs
 
 returns-4 : tie.Need-returns-4
 unfolding fieldRows
 returns-4 c =
-    let known = version-known _ _ (c .before .before .before .before .before .before .before .before .head-of .ensures .0) (c .before .before .before .before .before .before .before .if2 .left) in
+    let known = version-known _ _ (c .before .before .before .before .before .before .before .before .before .head-of .ensures .0) (c .before .before .before .before .before .before .before .before .if2 .left) in
     c .answer4 .ensures ∙ decides _ accepted _ _ (omega arith)
 
 answer-requires-5 : tie.Need-answer-requires-5
@@ -75,7 +78,7 @@ answer-requires-5 c κs = search needs
 returns-5 : tie.Need-returns-5
 unfolding fieldRows
 returns-5 c =
-    let known = version-known _ _ (c .before .before .before .before .before .before .before .before .before .before .head-of .ensures .0) (c .before .before .before .before .before .before .before .before .before .if2 .left) in
+    let known = version-known _ _ (c .before .before .before .before .before .before .before .before .before .before .before .head-of .ensures .0) (c .before .before .before .before .before .before .before .before .before .before .if2 .left) in
     c .answer5 .ensures ∙ decides _ accepted _ _ (omega arith)
 
 answer-requires-6 : tie.Need-answer-requires-6
@@ -84,7 +87,7 @@ answer-requires-6 c κs = search needs
 returns-6 : tie.Need-returns-6
 unfolding fieldRows
 returns-6 c =
-    let known = version-known _ _ (c .before .before .before .before .before .before .before .before .before .before .before .head-of .ensures .0) (c .before .before .before .before .before .before .before .before .before .before .if2 .left) in
+    let known = version-known _ _ (c .before .before .before .before .before .before .before .before .before .before .before .before .head-of .ensures .0) (c .before .before .before .before .before .before .before .before .before .before .before .if2 .left) in
     let k = none-of _ (c .before .match .rest .1) in
     c .answer6 .ensures ∙ decides _ accepted _ _ (omega arith)
 
@@ -94,8 +97,8 @@ answer-requires-7 c κs = search needs
 returns-7 : tie.Need-returns-7
 unfolding fieldRows
 returns-7 c =
-    let known = version-known _ _ (c .before .before .before .before .before .before .before .before .before .before .before .before .head-of .ensures .0) (c .before .before .before .before .before .before .before .before .before .before .before .if2 .left) in
-    let joined = same-join _ _ (c .before .before .before .before .before .before .before .before .before .read .ensures .flags-is) in
+    let known = version-known _ _ (c .before .before .before .before .before .before .before .before .before .before .before .before .before .head-of .ensures .0) (c .before .before .before .before .before .before .before .before .before .before .before .before .if2 .left) in
+    let joined = same-join _ _ (c .before .before .before .before .before .before .before .before .before .before .read .ensures .flags-is) in
     by-shift _ (λ e. c .answer7 .ensures ∙ decides _ accepted _ _ (omega arith)) (λ e. c .answer7 .ensures ∙ decides _ accepted _ _ (omega arith)) (λ e. c .answer7 .ensures ∙ decides _ accepted _ _ (omega arith)) (c .before .before .match .keys1)
 
 answer-requires-8 : tie.Need-answer-requires-8
@@ -104,8 +107,8 @@ answer-requires-8 c κs = search needs
 returns-8 : tie.Need-returns-8
 unfolding fieldRows
 returns-8 c =
-    let known = version-known _ _ (c .before .before .before .before .before .before .before .before .before .before .before .before .before .head-of .ensures .0) (c .before .before .before .before .before .before .before .before .before .before .before .before .if2 .left) in
-    let joined = same-join _ _ (c .before .before .before .before .before .before .before .before .before .before .read .ensures .flags-is) in
+    let known = version-known _ _ (c .before .before .before .before .before .before .before .before .before .before .before .before .before .before .head-of .ensures .0) (c .before .before .before .before .before .before .before .before .before .before .before .before .before .if2 .left) in
+    let joined = same-join _ _ (c .before .before .before .before .before .before .before .before .before .before .before .read .ensures .flags-is) in
     by-shift _ (λ e. c .answer8 .ensures ∙ decides _ accepted _ _ (omega arith)) (λ e. c .answer8 .ensures ∙ decides _ accepted _ _ (omega arith)) (λ e. c .answer8 .ensures ∙ decides _ accepted _ _ (omega arith)) (c .before .before .before .match .keys1)
 
 answer-requires-9 : tie.Need-answer-requires-9
@@ -114,8 +117,8 @@ answer-requires-9 c κs = search needs
 returns-9 : tie.Need-returns-9
 unfolding fieldRows
 returns-9 c =
-    let known = version-known _ _ (c .before .before .before .before .before .before .before .before .before .before .before .before .before .before .head-of .ensures .0) (c .before .before .before .before .before .before .before .before .before .before .before .before .before .if2 .left) in
-    let joined = same-join _ _ (c .before .before .before .before .before .before .before .before .before .before .before .read .ensures .flags-is) in
+    let known = version-known _ _ (c .before .before .before .before .before .before .before .before .before .before .before .before .before .before .before .head-of .ensures .0) (c .before .before .before .before .before .before .before .before .before .before .before .before .before .before .if2 .left) in
+    let joined = same-join _ _ (c .before .before .before .before .before .before .before .before .before .before .before .before .read .ensures .flags-is) in
     by-shift _ (λ e. c .answer9 .ensures ∙ decides _ accepted _ _ (omega arith)) (λ e. c .answer9 .ensures ∙ decides _ accepted _ _ (omega arith)) (λ e. c .answer9 .ensures ∙ decides _ accepted _ _ (omega arith)) (c .before .before .before .before .match .keys1)
 
 answer-requires-10 : tie.Need-answer-requires-10
@@ -124,8 +127,8 @@ answer-requires-10 c κs = search needs
 returns-10 : tie.Need-returns-10
 unfolding fieldRows
 returns-10 c =
-    let known = version-known _ _ (c .before .before .before .before .before .before .before .before .before .before .before .before .before .before .head-of .ensures .0) (c .before .before .before .before .before .before .before .before .before .before .before .before .before .if2 .left) in
-    let joined = same-join _ _ (c .before .before .before .before .before .before .before .before .before .before .before .read .ensures .flags-is) in
+    let known = version-known _ _ (c .before .before .before .before .before .before .before .before .before .before .before .before .before .before .before .head-of .ensures .0) (c .before .before .before .before .before .before .before .before .before .before .before .before .before .before .if2 .left) in
+    let joined = same-join _ _ (c .before .before .before .before .before .before .before .before .before .before .before .before .read .ensures .flags-is) in
     by-shift _ (λ e. c .answer10 .ensures ∙ passes _ accepted (omega arith)) (λ e. c .answer10 .ensures ∙ passes _ accepted (omega arith)) (λ e. c .answer10 .ensures ∙ passes _ accepted (omega arith)) (c .before .before .before .before .match .keys1)
 
 pub fields-tested-spec : {M : Type 1} → statement M
@@ -142,6 +145,7 @@ fields-tested-spec =
     read-requires
     limit64-of-requires
     scatter-of-requires
+    slot-width-requires
     answer-requires-4
     returns-4
     answer-requires-5

@@ -17,8 +17,8 @@ returns c = says false _ (omega arith)
 head-of-requires : tie.Need-head-of-requires
 head-of-requires c κs = search needs
 
-mul-if2 : tie.Need-mul-if2
-mul-if2 c = search needs
+special-bytes-requires : tie.Need-special-bytes-requires
+special-bytes-requires c κs = search needs
 
 add-if2 : tie.Need-add-if2
 add-if2 c = search needs
@@ -38,4 +38,4 @@ returns-4 c = says false _ (omega arith)
 pub special-outside-spec : {M : Type 1} → statement M
 special-outside-spec =
     tie.close
-    (tie.spec read-requires returns head-of-requires mul-if2 add-if2 returns-2 returns-3 returns-4)
+    (tie.spec read-requires returns head-of-requires special-bytes-requires add-if2 returns-2 returns-3 returns-4)

@@ -1,5 +1,5 @@
 -- Outside 1 to nSpecialSlots there is no slot. A slot that would start before the directory starts at 0, as a difference stops there.
-use Prim.Native.Nat.{ℕ, _-_, _*_, _/_, _<_, _≤_}
+use Prim.Native.Nat.{ℕ, _-_, _*_, _<_, _≤_}
 use mathlib.Core.Bool.{true, false}
 use mathlib.Core.List.{List, []}
 use mathlib.Core.Path.{_≡_, _∙_}
@@ -20,17 +20,18 @@ none : (d : List ℕ) (k : ℕ) → Says false (1 ≤? k and k ≤? nSpecialSlot
 unfolding specialSlot
 none d k h = rw (← says false (1 ≤? k and k ≤? nSpecialSlots d) h)
 
-stated : (d : List ℕ) (k : ℕ) → Stated d k → take slotWidth (drop (hashOffset d - slotWidth * k) d) ≡ specialSlot d k
+stated : (d : List ℕ) (k : ℕ) → Stated d k → take (slotWidth d) (drop (hashOffset d - slotWidth d * k) d) ≡ specialSlot d k
 unfolding specialSlot
 stated d k h = rw (← says true (1 ≤? k and k ≤? nSpecialSlots d) h)
 
-from-start : (d : List ℕ) (at k : ℕ) → at ≡ hashOffset d → Stated d k → at / slotWidth < k → take slotWidth (drop 0 d) ≡ specialSlot d k
-from-start d at k e h l =
-    let z : hashOffset d - slotWidth * k ≡ 0 = omega arith in
-    rw (← stated d k h, z)
+module _ (d : List ℕ) (at k back width : ℕ) (e : at ≡ hashOffset d) (b : back ≡ slotWidth d * k) (w : width ≡ slotWidth d) (h : Stated d k) where
+  from-start : at < back → take width (drop 0 d) ≡ specialSlot d k
+  from-start l =
+      let z : hashOffset d - slotWidth d * k ≡ 0 = omega arith in
+      rw (w, ← stated d k h, z)
 
-behind : (d : List ℕ) (at k : ℕ) → at ≡ hashOffset d → Stated d k → take slotWidth (drop (at - slotWidth * k) d) ≡ specialSlot d k
-behind d at k e h = rw (← stated d k h, e)
+  behind : take width (drop (at - back) d) ≡ specialSlot d k
+  behind = rw (w, ← stated d k h, e, b)
 
 read-requires : tie.Need-read-requires
 read-requires c κs = search needs
@@ -47,23 +48,27 @@ part-requires-2 c κs = search needs
 returns-2 : tie.Need-returns-2
 returns-2 c = c .part2 .ensures ∙ none _ _ (λ l. omega arith)
 
+slot-bytes-requires : tie.Need-slot-bytes-requires
+slot-bytes-requires c κs = omega arith
+
+slot-width-requires : tie.Need-slot-width-requires
+slot-width-requires c κs = search needs
+
 part-requires-3 : tie.Need-part-requires-3
 part-requires-3 c κs = search needs
 
 returns-3 : tie.Need-returns-3
-returns-3 c = c .part3 .ensures ∙ from-start _ _ _ (c .before .before .before .before .read .ensures .hashOffset-is) (omega arith) (omega arith)
-
-mul-part : tie.Need-mul-part
-mul-part c = search needs
-
-sub-part : tie.Need-sub-part
-sub-part c = search needs
+returns-3 c =
+    c .part3 .ensures
+    ∙ from-start _ _ _ _ _ (c .before .before .before .before .before .before .read .ensures .hashOffset-is) (c .before .before .before .slot-bytes .ensures .0) (c .before .before .slot-width .ensures .0) (omega arith) (omega arith)
 
 part-requires-4 : tie.Need-part-requires-4
 part-requires-4 c κs = search needs
 
 returns-4 : tie.Need-returns-4
-returns-4 c = c .part4 .ensures ∙ behind _ _ _ (c .before .before .before .before .read .ensures .hashOffset-is) (omega arith)
+returns-4 c =
+    c .part4 .ensures
+    ∙ behind _ _ _ _ _ (c .before .before .before .before .before .before .read .ensures .hashOffset-is) (c .before .before .before .slot-bytes .ensures .0) (c .before .before .slot-width .ensures .0) (omega arith)
 
 pub special-slot-spec : {M : Type 1} → statement M
 special-slot-spec =
@@ -74,9 +79,9 @@ special-slot-spec =
     returns
     part-requires-2
     returns-2
+    slot-bytes-requires
+    slot-width-requires
     part-requires-3
     returns-3
-    mul-part
-    sub-part
     part-requires-4
     returns-4)

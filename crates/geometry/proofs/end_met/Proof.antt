@@ -3,10 +3,10 @@ use native.Mathlib.Omega.{arith}
 use Prim.Native.Nat.{_+_, _-_}
 use mathlib.Core.Path.{sym}
 use native.Mathlib.Nat.{div-le-self}
-use Rattle.pages.proofs.Pages.{end-empty, end-zero, range-end}
+use Rattle.geometry.proofs.Pages.{end-empty, end-zero, range-end}
 use borrow.Author.Needs.{needs}
-use Rattle.pages.proofs.geometry.end_met.Statement.{statement}
-use Rattle.pages.proofs.geometry.end_met.Tie as tie
+use Rattle.geometry.proofs.end_met.Statement.{statement}
+use Rattle.geometry.proofs.end_met.Tie as tie
 
 returns : tie.Need-returns
 returns c = end-empty _ _ _ (omega arith)

@@ -1,10 +1,10 @@
 -- The three cases of the definition: an empty range, a division by 0, and a division.
 use native.Mathlib.Omega.{arith}
 use mathlib.Core.Path.{sym}
-use Rattle.pages.proofs.Pages.{first-empty, first-zero, range-first}
+use Rattle.geometry.proofs.Pages.{first-empty, first-zero, range-first}
 use borrow.Author.Needs.{needs}
-use Rattle.pages.proofs.geometry.first_met.Statement.{statement}
-use Rattle.pages.proofs.geometry.first_met.Tie as tie
+use Rattle.geometry.proofs.first_met.Statement.{statement}
+use Rattle.geometry.proofs.first_met.Tie as tie
 
 returns : tie.Need-returns
 returns c = first-empty _ _ _ (omega arith)

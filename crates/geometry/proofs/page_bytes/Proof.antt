@@ -1,8 +1,8 @@
 -- Each arm of the match is its own case of the definition.
 use native.Mathlib.Omega.{arith}
-use Rattle.pages.proofs.Pages.{whole-bytes, small-bytes, large-bytes, other-bytes}
-use Rattle.pages.proofs.geometry.page_bytes.Statement.{statement}
-use Rattle.pages.proofs.geometry.page_bytes.Tie as tie
+use Rattle.geometry.proofs.Pages.{whole-bytes, small-bytes, large-bytes, other-bytes}
+use Rattle.geometry.proofs.page_bytes.Statement.{statement}
+use Rattle.geometry.proofs.page_bytes.Tie as tie
 
 returns : tie.Need-returns
 returns c = whole-bytes _ _ (omega arith)

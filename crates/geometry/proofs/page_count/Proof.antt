@@ -2,10 +2,10 @@
 use native.Mathlib.Omega.{arith}
 use Prim.Native.Nat.{_-_}
 use native.Mathlib.Nat.{div-le-self}
-use Rattle.pages.proofs.Pages.{count-zero, count-none, count-pos}
+use Rattle.geometry.proofs.Pages.{count-zero, count-none, count-pos}
 use borrow.Author.Needs.{needs}
-use Rattle.pages.proofs.geometry.page_count.Statement.{statement}
-use Rattle.pages.proofs.geometry.page_count.Tie as tie
+use Rattle.geometry.proofs.page_count.Statement.{statement}
+use Rattle.geometry.proofs.page_count.Tie as tie
 
 returns : tie.Need-returns
 returns c = count-zero _ _ (omega arith)

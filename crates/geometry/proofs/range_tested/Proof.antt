@@ -2,10 +2,10 @@
 use native.Mathlib.Omega.{arith}
 use Rattle.refusals.specs.Refusals.{accepted}
 use Rattle.refusals.proofs.Exact.{decides, passes}
-use Rattle.pages.specs.Pages.{rangeRows}
+use Rattle.geometry.specs.Pages.{rangeRows}
 use borrow.Author.Needs.{needs}
-use Rattle.pages.proofs.geometry.range_tested.Statement.{statement}
-use Rattle.pages.proofs.geometry.range_tested.Tie as tie
+use Rattle.geometry.proofs.range_tested.Statement.{statement}
+use Rattle.geometry.proofs.range_tested.Tie as tie
 
 returns : tie.Need-returns
 unfolding rangeRows

@@ -1,9 +1,9 @@
 -- The last page met starts below the limit, and ends where the pages met end.
 use native.Mathlib.Omega.{arith}
-use Rattle.pages.proofs.Pages.{wanted-none, Ranged, ranged}
+use Rattle.geometry.proofs.Pages.{wanted-none, Ranged, ranged}
 use borrow.Author.Needs.{needs}
-use Rattle.pages.proofs.geometry.wanted_bytes.Statement.{statement}
-use Rattle.pages.proofs.geometry.wanted_bytes.Tie as tie
+use Rattle.geometry.proofs.wanted_bytes.Statement.{statement}
+use Rattle.geometry.proofs.wanted_bytes.Tie as tie
 
 facts : (c : tie.After-end-met) → Ranged (c .before .before .before .args .p) (c .before .before .before .args .limit) (c .before .before .before .args .start) (c .before .before .before .args .size) (c .before .first-met .result) (c .end-met .result)
 facts c = ranged _ (c .before .before .before .args .limit) _ _ _ _ (c .before .first-met .ensures) (c .end-met .ensures) (c .before .before .if1 .left) (c .before .before .before .pre)

@@ -2,10 +2,10 @@
 use native.Mathlib.Omega.{arith}
 use Rattle.refusals.specs.Refusals.{refuse}
 use Rattle.refusals.proofs.Exact.{decides, passes}
-use Rattle.pages.specs.Marks.{judged, badRows}
+use Rattle.marks.specs.Marks.{judged, badRows}
 use borrow.Author.Needs.{needs}
-use Rattle.pages.proofs.marks.judge.Statement.{statement}
-use Rattle.pages.proofs.marks.judge.Tie as tie
+use Rattle.marks.proofs.judge.Statement.{statement}
+use Rattle.marks.proofs.judge.Tie as tie
 
 lowest-differs-requires : tie.Need-lowest-differs-requires
 lowest-differs-requires c κs = search needs

@@ -7,9 +7,9 @@ use lib.ListN.{length}
 use Rattle.refusals.specs.Refusals.{lowest}
 use Rattle.refusals.proofs.Conditions.{says}
 use Rattle.refusals.proofs.Positions.{lowest-none, lowest-more, lowest-stop, lowest-end}
-use Rattle.pages.specs.Marks.{neither}
-use Rattle.pages.proofs.marks.lowest_neither.Statement.{statement}
-use Rattle.pages.proofs.marks.lowest_neither.Tie as tie
+use Rattle.marks.specs.Marks.{neither}
+use Rattle.marks.proofs.lowest_neither.Statement.{statement}
+use Rattle.marks.proofs.lowest_neither.Tie as tie
 
 abbrev Inv-loop : tie.InvT-loop
 Inv-loop marks i₀ i = (i ≤ length marks) × (lowest (neither marks) i ≡ i)

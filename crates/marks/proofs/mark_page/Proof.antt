@@ -1,12 +1,12 @@
 -- The page lies in the bytes and its slot in the slots, so that both parts can be cut; the mark is what their comparison says.
 use native.Mathlib.Omega.{arith}
 use Prim.Native.Nat.{_-_, _*_}
-use Rattle.pages.specs.Pages.{pageEnd}
-use Rattle.pages.proofs.Pages.{count-of, Within, within}
-use Rattle.pages.proofs.Marking.{cut-mark}
+use Rattle.geometry.specs.Pages.{pageEnd}
+use Rattle.geometry.proofs.Pages.{count-of, Within, within}
+use Rattle.marks.proofs.Marking.{cut-mark}
 use borrow.Author.Needs.{needs}
-use Rattle.pages.proofs.marks.mark_page.Statement.{statement}
-use Rattle.pages.proofs.marks.mark_page.Tie as tie
+use Rattle.marks.proofs.mark_page.Statement.{statement}
+use Rattle.marks.proofs.mark_page.Tie as tie
 
 inside : (c : tie.After-shared-slice-known2) → Within (c .before .before .args .p) (c .before .before .args .limit) (c .before .before .args .from) (c .before .before .args .n)
 inside c =

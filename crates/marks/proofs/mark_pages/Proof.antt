@@ -6,11 +6,11 @@ use mathlib.Core.List.{List, _++_}
 use Prim.Native.Nat.{ℕ}
 use denote.Ref.{now}
 use lib.ListN.{length, drop, set, length-set}
-use Rattle.pages.specs.Marks.{markIn, tab, marksFrom}
-use Rattle.pages.proofs.Lists.{tab-none, tab-more, tab-all}
-use Rattle.pages.proofs.Marking.{page-of}
-use Rattle.pages.proofs.marks.mark_pages.Statement.{statement}
-use Rattle.pages.proofs.marks.mark_pages.Tie as tie
+use Rattle.marks.specs.Marks.{markIn, tab, marksFrom}
+use Rattle.marks.proofs.Tabs.{tab-none, tab-more, tab-all}
+use Rattle.marks.proofs.Marking.{page-of}
+use Rattle.marks.proofs.mark_pages.Statement.{statement}
+use Rattle.marks.proofs.mark_pages.Tie as tie
 
 abbrev Inv-loop : tie.InvT-loop
 Inv-loop p limit slots from bytes marks₀ i₀ marks i = (i ≤ length marks₀) × ((length marks ≡ length marks₀) × (marks ≡ tab from i (markIn p limit slots from bytes) ++ drop i marks₀))

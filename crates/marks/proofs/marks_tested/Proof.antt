@@ -2,10 +2,10 @@
 use native.Mathlib.Omega.{arith}
 use Rattle.refusals.specs.Refusals.{accepted}
 use Rattle.refusals.proofs.Exact.{decides, passes}
-use Rattle.pages.specs.Marks.{markRows}
+use Rattle.marks.specs.Marks.{markRows}
 use borrow.Author.Needs.{needs}
-use Rattle.pages.proofs.marks.marks_tested.Statement.{statement}
-use Rattle.pages.proofs.marks.marks_tested.Tie as tie
+use Rattle.marks.proofs.marks_tested.Statement.{statement}
+use Rattle.marks.proofs.marks_tested.Tie as tie
 
 lowest-neither-requires : tie.Need-lowest-neither-requires
 lowest-neither-requires c κs = search needs

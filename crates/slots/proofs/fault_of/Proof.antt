@@ -1,4 +1,5 @@
 -- The five ways of slot and thing are the five lines of `faultOf`. Assumes nothing.
+use Rattle.digest.proofs.Kinds.{sha256-kind}
 use Rattle.slots.proofs.Laws.{fault-empty, fault-none, fault-missing, fault-agrees, fault-differs}
 use borrow.Author.Needs.{needs}
 use Rattle.slots.proofs.fault_of.Statement.{statement}
@@ -17,10 +18,14 @@ agrees-requires : tie.Need-agrees-requires
 agrees-requires c κs = search needs
 
 returns-3 : tie.Need-returns-3
-returns-3 c = fault-agrees _ _ _ (cc) (cc) (cc)
+returns-3 c =
+    let k = sha256-kind (c .before .before .before .args .thing .now) in
+    fault-agrees _ _ _ (cc) (cc) (cc)
 
 returns-4 : tie.Need-returns-4
-returns-4 c = fault-differs _ _ _ (cc) (cc) (cc)
+returns-4 c =
+    let k = sha256-kind (c .before .before .before .args .thing .now) in
+    fault-differs _ _ _ (cc) (cc) (cc)
 
 returns-5 : tie.Need-returns-5
 returns-5 c = fault-missing _ _ _ (cc) (cc)

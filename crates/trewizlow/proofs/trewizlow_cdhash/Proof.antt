@@ -2,7 +2,7 @@
 use mathlib.Core.Path.{ap, _∙_}
 use native.Mathlib.Omega.{arith}
 use borrow.Author.Needs.{needs}
-use Rattle.directory.specs.Rows.{cdhash}
+use Rattle.cdhash.specs.Hash.{cdhash}
 use Rattle.trewizlow.specs.Interface.{hashWith}
 use Rattle.trewizlow.proofs.Laws.{hash-read, hash-refused}
 use Rattle.trewizlow.proofs.trewizlow_cdhash.Statement.{statement}

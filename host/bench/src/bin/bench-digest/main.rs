@@ -17,29 +17,41 @@ and with a straightforward Rust one, N times each (default 5), compares every di
 prints both times and their ratio. Exit status 1 where two digests differ.
 ";
 
-type Digest = fn(&[u8], &mut [u8; 32]);
+type Out = [u8; proved::MOST];
+
+type Digest = fn(&[u8], &mut Out);
+
+fn proved_digest(message: &[u8], out: &mut Out) {
+    proved::digest(2, message, out);
+}
+
+/// The plain digest, in a buffer that was cleared.
+fn plain_digest(message: &[u8], out: &mut Out) {
+    let (digest, _) = out.split_first_chunk_mut().expect("room for a SHA-256 digest");
+    plain::digest(message, digest);
+}
 
 /// A piece that is timed at once.
 const PIECE: usize = 1 << 20;
 
 /// Hashes the piece's pages, one after the other.
-fn hash_pages(digest: Digest, piece: &[u8], page_size: usize, out: &mut [[u8; 32]]) {
+fn hash_pages(digest: Digest, piece: &[u8], page_size: usize, out: &mut [Out]) {
     for (page, out) in piece.chunks(page_size).zip(out) {
         digest(page, out);
     }
 }
 
 /// One timed pass over a piece; the outputs are cleared to 0 before.
-fn pass(digest: Digest, piece: &[u8], page_size: usize, out: &mut [[u8; 32]]) -> f64 {
-    out.fill([0; 32]);
+fn pass(digest: Digest, piece: &[u8], page_size: usize, out: &mut [Out]) -> f64 {
+    out.fill([0; proved::MOST]);
     seconds(|| hash_pages(digest, piece, page_size, out))
 }
 
 /// The times of both programs (proved, plain), or the first page whose digests differ.
 fn measure(buffer: &[u8], page_size: usize, reps: usize) -> Result<[Times; 2], usize> {
-    let digests: [Digest; 2] = [proved::digest, plain::digest];
+    let digests: [Digest; 2] = [proved_digest, plain_digest];
     let per_piece = PIECE / page_size;
-    let mut outs = [vec![[0u8; 32]; per_piece], vec![[0u8; 32]; per_piece]];
+    let mut outs = [(); 2].map(|()| vec![[0; proved::MOST]; per_piece]);
     let mut times = [(); 2].map(|()| Times::new(buffer.len() / PIECE));
     for rep in 0..reps {
         for (k, piece) in buffer.chunks(PIECE).enumerate() {

@@ -1,0 +1,35 @@
+-- The digest of the blob, cut: what stands behind a digest is cut off too.
+use mathlib.Core.Path.{_≡_, refl, ap, _∙_}
+use mathlib.Core.List.{List, _++_}
+use Prim.Native.Nat.{ℕ}
+use native.Mathlib.Omega.{arith}
+use lib.ListN.{take}
+use lib.Seq.{take-append-le}
+use Rattle.layout.specs.CodeDirectory.{sha256Type}
+use Rattle.layout.specs.TrustCache.{cdhashLength}
+use Rattle.layout.proofs.Widths.{width-256}
+use Rattle.digest.specs.Kinds.{digestOf}
+use Rattle.digest.proofs.Kinds.{sha256-kind}
+use Rattle.digest.proofs.Digests.{digest-length}
+use Rattle.cdhash.specs.Hash.{cdhash}
+use borrow.Author.Needs.{needs}
+use Rattle.cdhash.proofs.cdhash.Statement.{statement}
+use Rattle.cdhash.proofs.cdhash.Tie as tie
+
+cut-digest : (d zeros : List ℕ) → take cdhashLength (digestOf sha256Type d ++ zeros) ≡ cdhash d
+unfolding cdhash
+cut-digest d zeros =
+    take-append-le cdhashLength (digestOf sha256Type d) zeros (omega (arith, digest-length sha256Type d, width-256 sha256Type refl))
+    ∙ ap (take cdhashLength) (sha256-kind d)
+
+digest-requires : tie.Need-digest-requires
+digest-requires c κs = search needs
+
+cut-requires : tie.Need-cut-requires
+cut-requires c κs = search needs
+
+returns : tie.Need-returns
+returns c = c .cut .ensures ∙ ap (take cdhashLength) (c .before .digest .ensures) ∙ cut-digest _ _
+
+pub cdhash-spec : {M : Type 1} → statement M
+cdhash-spec = tie.close (tie.spec digest-requires cut-requires returns)
