@@ -1,0 +1,9 @@
+-- Laws that belong to no one function.
+pub mod Blocks
+pub mod Padding
+pub mod Digests
+pub mod Windows
+pub mod Rounds
+pub mod Rounds1
+pub mod Short
+pub mod Examples

@@ -1,0 +1,61 @@
+-- Laws of SHA-1's rounds and schedule. Assumes nothing.
+use mathlib.Core.Path.{_≡_, refl}
+use mathlib.Core.List.{List, [], _∷_}
+use Prim.Native.Nat.{ℕ, suc, _+_, _-_, _%_, _<_, _≤_}
+use native.Mathlib.Omega.{arith}
+use lib.ListN.{getD, set}
+use borrow.Author.Tests.{lt-ltb, le-ltb}
+use Rattle.sha.specs.Words.{plus, sums}
+use Rattle.sha.specs.Sha1.{byRound, mix1, mixed1, round1, rounds1}
+use Rattle.sha.specs.Window.{renewed}
+use Rattle.sha.proofs.Windows.{Local}
+
+-- of four numbers the one for round t
+module _ (t a b c d : ℕ) where
+  pub by-round-1 : t < 20 → a ≡ byRound t a b c d
+  unfolding byRound
+  by-round-1 l = rw (lt-ltb t 20 l)
+
+  pub by-round-2 : 20 ≤ t → t < 40 → b ≡ byRound t a b c d
+  unfolding byRound
+  by-round-2 l m = rw (le-ltb t 20 l, lt-ltb t 40 m)
+
+  pub by-round-3 : 40 ≤ t → t < 60 → c ≡ byRound t a b c d
+  unfolding byRound
+  by-round-3 l m =
+      let k : 20 ≤ t = omega arith in
+      rw (le-ltb t 20 k, le-ltb t 40 l, lt-ltb t 60 m)
+
+  pub by-round-4 : 60 ≤ t → d ≡ byRound t a b c d
+  unfolding byRound
+  by-round-4 l =
+      let j : 20 ≤ t = omega arith in
+      let k : 40 ≤ t = omega arith in
+      rw (le-ltb t 20 j, le-ltb t 40 k, le-ltb t 60 l)
+
+-- THE RULE AND THE ROUND, as the laws of the words kept take them
+
+pub local1 : Local mixed1
+local1 b c h = rw (h 3 (omega arith) (omega arith), h 8 (omega arith) (omega arith), h 14 (omega arith) (omega arith), h 16 (omega arith) (omega arith))
+
+pub renewed1-of : (w : List ℕ) (t v : ℕ)
+    → v ≡ mix1 (getD w ((t + 13) % 16) 0) (getD w ((t + 8) % 16) 0) (getD w ((t + 2) % 16) 0) (getD w (t % 16) 0) → set w (t % 16) v ≡ renewed mixed1 t w
+unfolding renewed
+renewed1-of w t v ev =
+    let a : t + 16 - 3 ≡ t + 13 = omega arith in
+    let b : t + 16 - 8 ≡ t + 8 = omega arith in
+    let c : t + 16 - 14 ≡ t + 2 = omega arith in
+    let d : t + 16 - 16 ≡ t = omega arith in
+    rw (a, b, c, d, ev)
+
+pub rounds1-follow : (h ws : List ℕ) (t : ℕ) → rounds1 (suc t) h ws ≡ round1 t (rounds1 t h ws) (getD ws t 0)
+unfolding rounds1
+rounds1-follow h ws t = refl
+
+-- the closing sum, of five words
+pub sums-five : (w : ℕ) (h s : List ℕ) {a b c d e : ℕ}
+    → a ≡ plus w (getD h 0 0) (getD s 0 0) → b ≡ plus w (getD h 1 0) (getD s 1 0) → c ≡ plus w (getD h 2 0) (getD s 2 0)
+    → d ≡ plus w (getD h 3 0) (getD s 3 0) → e ≡ plus w (getD h 4 0) (getD s 4 0)
+    → a ∷ b ∷ c ∷ d ∷ e ∷ [] ≡ sums w 5 h s
+unfolding sums
+sums-five w h s ha hb hc hd he = rw (ha, hb, hc, hd, he)

@@ -1,0 +1,29 @@
+-- Rounds over a schedule of which sixteen words are kept: each new word stands in the place of the word sixteen before it. No definition of a
+-- hash function is made of these; they are what contracts of private functions say, and proofs tie them to the whole schedule.
+use Prim.Native.Nat.{ℕ, zero, suc, _+_, _-_, _%_}
+use mathlib.Core.List.{List}
+use lib.ListN.{getD, set}
+use Rattle.sha.specs.Schedule.{Rule}
+use Rattle.sha.specs.Sha2.{Core, round}
+
+-- sixteen words whose word at place i, modulo 16, has given way to the one sixteen after it
+unfoldable pub renewed : Rule → ℕ → List ℕ → List ℕ
+renewed f i w = set w (i % 16) (f (λ d. getD w ((i + 16 - d) % 16) 0))
+
+-- the same for n places from place i on, one after the other
+unfoldable pub rolled : Rule → ℕ → ℕ → List ℕ → List ℕ
+rolled f i zero w = w
+rolled f i (suc n) w = renewed f (i + n) (rolled f i n w)
+
+-- a round, from its number, the working words and a word of the schedule
+abbrev pub Round : Type 0
+Round = ℕ → List ℕ → ℕ → List ℕ
+
+-- the working words after the n rounds from t + i on, each with the word at its place
+unfoldable pub ran : Round → ℕ → ℕ → ℕ → List ℕ → List ℕ → List ℕ
+ran g t i zero s w = s
+ran g t i (suc n) s w = g (t + (i + n)) (ran g t i n s w) (getD w ((i + n) % 16) 0)
+
+-- SHA-2's round t, with its constant
+abbrev pub stage : Core → Round
+stage q t s x = round q s (getD (q .table) t 0) x
