@@ -1,5 +1,2 @@
-pub mod Words
-pub mod Message
-pub mod Hash
-pub mod Sha256
+pub mod Kinds
 pub mod Same

@@ -1,12 +1,15 @@
 // The digest of a slice, exported for the benchmark under host/: `rt staticlib digest_c`.
 ghost use mathlib.Core.Path.{_≡_};
-ghost use Rattle.digest.specs.Hash.{digest};
-ghost use Rattle.digest.specs.Sha256.{sha256};
+ghost use mathlib.Core.List.{_++_};
+ghost use Prim.Native.Nat.{_-_};
+ghost use lib.ListN.{replicate};
+ghost use Rattle.layout.specs.CodeDirectory.{widthOf};
+ghost use Rattle.digest.specs.Kinds.{digestOf};
 
-// Writes the SHA-256 digest of a message.
+// Writes the digest of a message by a kind, and zeros behind it.
 #[no_mangle]
-pub extern "C" fn trewizlow_digest(message: &[u8], out: &mut [u8; 32])
-    ensures { λ _. ⌜ now (out .exit) ≡ digest sha256 (now (message .entry)) ⌝ }
+pub extern "C" fn trewizlow_digest(kind: u32, message: &[u8], out: &mut [u8; 48])
+    ensures { λ _. ⌜ now (out .exit) ≡ digestOf kind (now (message .entry)) ++ replicate (48 - widthOf kind) 0 ⌝ }
 {
-    *out = digest::digest(message);
+    *out = digest::digest(kind as usize, message);
 }
