@@ -12,7 +12,7 @@ use Rattle.refusals.proofs.Positions.{lowest-below, none-fails}
 use Rattle.sha.specs.Hash.{digest}
 use Rattle.sha.specs.Sha2.{sha256}
 use Rattle.digest.specs.Kinds.{digestOf}
-use Rattle.digest.proofs.Kinds.{sha256-kind}
+use Rattle.digest.proofs.ByKind.{sha256-kind}
 use Rattle.layout.specs.CodeDirectory.{sha256Type, hashType, slotWidth, nCodeSlots}
 use Rattle.geometry.specs.Pages.{pageCount, pageOf}
 use Rattle.marks.specs.Marks.{slotAt, marksOf, differs, badRows}

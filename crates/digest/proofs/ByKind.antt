@@ -15,7 +15,7 @@ use Rattle.sha.specs.Hash.{Hash, digest}
 use Rattle.sha.specs.Sha1.{sha1}
 use Rattle.sha.specs.Sha2.{sha256, sha384}
 use Rattle.sha.proofs.Digests.{digest-cut}
-use Rattle.digest.specs.Kinds.{sha256-20, none, hashOf, digestOf}
+use Rattle.digest.specs.Kinds.{sha256-20, none, hashOf, digestOf, Sha256Kind}
 
 -- by the number, which is known in each case
 pub by-number : (P : Hash → Type 0) (k : ℕ) → (k ≡ 1 → P sha1) → (k ≡ 2 → P sha256) → (k ≡ 3 → P sha256-20) → (k ≡ 4 → P sha384)
@@ -80,3 +80,7 @@ pub width-32 : (k : ℕ) → (k ≡ 4 → ⊥) → widthOf k ≤ 32
 width-32 k h =
     rw (← width-is k)
     (by-number (λ f. f .width ≤ 32) k (λ e. omega arith) (λ e. omega arith) (λ e. omega arith) (λ e. absurd (h e)) (λ a b c d. omega arith))
+
+pub sha256-kind : Sha256Kind
+unfolding digestOf hashOf
+sha256-kind m = refl

@@ -2,7 +2,9 @@
 use Prim.Native.Nat.{ℕ}
 use mathlib.Core.Bool.{cond}
 use mathlib.Core.List.{List, []}
+use mathlib.Core.Path.{_≡_}
 use lib.Dec.{eqb}
+use Rattle.layout.specs.CodeDirectory.{sha1Type, sha256Type, truncatedType, sha384Type}
 use Rattle.sha.specs.Hash.{Hash, digest}
 use Rattle.sha.specs.Sha1.{sha1}
 use Rattle.sha.specs.Sha2.{core256, compress, h256, sha256, sha384}
@@ -16,8 +18,12 @@ abbrev pub none : Hash
 none = record { size = 4; block = λ h ms. h; start = []; count = 0; width = 0 }
 
 unfoldable pub hashOf : ℕ → Hash
-hashOf k = cond (eqb k 1) sha1 (cond (eqb k 2) sha256 (cond (eqb k 3) sha256-20 (cond (eqb k 4) sha384 none)))
+hashOf k = cond (eqb k sha1Type) sha1 (cond (eqb k sha256Type) sha256 (cond (eqb k truncatedType) sha256-20 (cond (eqb k sha384Type) sha384 none)))
 
 -- the digest of a message by a kind: as many bytes as the kind's slots have (`digest-length` in proofs/Digests.antt)
 unfoldable pub digestOf : ℕ → List ℕ → List ℕ
 digestOf k m = digest (hashOf k) m
+
+-- by the kind that test 13 takes it is SHA-256's
+abbrev pub Sha256Kind : Type 0
+Sha256Kind = (m : List ℕ) → digestOf sha256Type m ≡ digest sha256 m

@@ -3,7 +3,7 @@ use Prim.Native.Nat.{ℕ, zero, suc, _+_, _-_, _*_, _<_, _≤_}
 use mathlib.Core.Bool.{Bool, true, false}
 use mathlib.Core.List.{List, [], _∷_}
 use mathlib.Core.Path.{_≡_, refl, sym, ap, _∙_}
-use native.Mathlib.Nat.{le-refl, mul-zero, mul-one, one-mul, mul-suc, mul-le-mul-left, mul-le-mul-right}
+use native.Mathlib.Nat.{le-refl, mul-zero, mul-one, one-mul, mul-le-mul-right}
 use native.Mathlib.Omega.{arith}
 use lib.Dec.{ltb}
 use lib.ListN.{length, take, drop, length-drop}
@@ -11,28 +11,9 @@ use lib.Seq.{length-take-le, take-nil, take-take, drop-drop}
 use borrow.Author.Tests.{ltb-true, ltb-false}
 use Rattle.refusals.specs.Refusals.{_or_, Says}
 use Rattle.layout.specs.CodeDirectory.{slotWidth, hashOffset, nSpecialSlots, nCodeSlots}
+use Rattle.layout.proofs.Widths.{slot-end, slot-back, last-end}
 use Rattle.directory.specs.Rows.{codeSlot, codeSlots, specialOutside, codeOutside}
 use Rattle.directory.specs.Formed.{SlotsInside}
-
--- BYTES OF SLOTS, over their width w
-
-module _ (w : ℕ) where
-  -- slot i ends where slot i + 1 starts, and so no later than the last of n slots
-  slot-end : (i n : ℕ) → i < n → w * i + w ≤ w * n
-  slot-end i n h =
-      let e : w * suc i ≡ w * i + w = mul-suc w i in
-      omega (arith, mul-le-mul-left {m = suc i} {n = n} w (omega arith))
-
-  -- and slot k from the end on, counted from 1, ends where the slot before it starts
-  slot-back : (k n : ℕ) → 0 < k → k ≤ n → (w ≤ w * k) × (w * k ≤ w * n)
-  slot-back k n p q =
-      (omega (arith, mul-le-mul-left {m = 1} {n = k} w p, mul-one w), mul-le-mul-left {m = k} {n = n} w q)
-
-  -- all n of them end where the last ends
-  last-end : (n : ℕ) → 0 < n → w * (n - 1) + w ≡ w * n
-  last-end n p =
-      let e : suc (n - 1) ≡ n = omega arith in
-      sym (mul-suc w (n - 1)) ∙ ap (λ (k : ℕ). w * k) e
 
 -- test 17 passes exactly then
 pub slots-inside : (d : List ℕ) → (Says false (specialOutside d or codeOutside d) → SlotsInside d) × (SlotsInside d → Says false (specialOutside d or codeOutside d))

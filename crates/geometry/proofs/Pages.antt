@@ -6,8 +6,8 @@ use mathlib.Core.Bool.{Bool, true, false}
 use native.Mathlib.Nat.{mul-le-mul-left, mul-comm, mul-zero, suc-mul, div-zero, le-div-iff-mul-le, div-lt-iff-lt-mul, lt-mul-div-succ, mul-div-le, min-le-left, min-le-right, le-min, le-trans, div-eq-of-lt, add-div-right}
 use native.Mathlib.Numerals.{add-one}
 use native.Mathlib.Omega.{arith}
-use lib.Dec.{eqb}
-use borrow.Author.Tests.{eqb-true, eqb-false}
+use lib.Dec.{eqb, ltb}
+use borrow.Author.Tests.{eqb-true, eqb-false, ltb-true, ltb-false}
 use Rattle.refusals.specs.Refusals.{_≡?_}
 use Rattle.refusals.proofs.Conditions.{pick-yes, pick-no}
 use Rattle.geometry.specs.Pages.{Fit, pageBytes, PagePower, pageCount, pageEnd, metFirst, metEnd, metStop, wanted, Shared}
@@ -87,6 +87,15 @@ unfolding pageCount
 count-pos p limit u h =
     let q : limit + (p - 1) ≡ limit - 1 + p = omega arith in
     sym (ap (λ (n : ℕ). n / p) q ∙ add-div-right (limit - 1) u)
+
+-- no more pages than bytes
+pub count-most : (p limit : ℕ) → pageCount p limit ≤ limit
+count-most zero limit = rw (← count-none 0 limit refl) zero-le
+count-most (suc p) limit = by-test (ltb limit (pageCount (suc p) limit)) refl
+  where
+    by-test : (b : Bool) → ltb limit (pageCount (suc p) limit) ≡ b → pageCount (suc p) limit ≤ limit
+    by-test true e = absurd (omega (arith, count-of (suc p) limit limit (ltb-true limit (pageCount (suc p) limit) e), suc-mul p limit))
+    by-test false e = ltb-false limit (pageCount (suc p) limit) e
 
 -- THE PAGES THAT A RANGE MEETS
 

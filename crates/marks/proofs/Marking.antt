@@ -14,6 +14,7 @@ use Rattle.refusals.proofs.Positions.{none-fails}
 use Rattle.digest.specs.Kinds.{digestOf}
 use Rattle.digest.specs.Same.{same}
 use Rattle.digest.proofs.Equality.{same-equal, equal-same}
+use Rattle.layout.proofs.Widths.{slot-end}
 use Rattle.geometry.specs.Pages.{pageCount, pageEnd, part, pageOf, metFirst, metEnd}
 use Rattle.marks.specs.Marks.{Slots, width, slotAt, agrees, AgreesExactly, markOf, marksOf, markIn, marksFrom, remarked, neither, differs, markRows, badRows, judged, PageHere, PagesHere, RangeHere}
 use Rattle.geometry.proofs.Pages.{met-le, met-count}
@@ -36,23 +37,25 @@ mark-zero slots i bytes e = mark-of slots i bytes true e
 pub mark-one : (slots : Slots) (i : ℕ) (bytes : List ℕ) → false ≡ agrees slots i bytes → 1 ≡ markOf slots i bytes
 mark-one slots i bytes e = mark-of slots i bytes false e
 
--- as the code finds it, from the slot cut out of the slots
-slot-cut : (slots : Slots) (n : ℕ) → part (slots .bytes) (width slots * n) (width slots * n + width slots) ≡ slotAt slots n
-unfolding slotAt
-slot-cut slots n =
-    let e : width slots * n + width slots - width slots * n ≡ width slots = omega arith in
-    rw e
+-- as the code finds it, from the slot that is cut out of the slots at `at`, w bytes long
+module _ (slots : Slots) (n at w : ℕ) (place : at ≡ width slots * n) (wide : w ≡ width slots) where
+  slot-cut : part (slots .bytes) at (at + w) ≡ slotAt slots n
+  unfolding slotAt
+  slot-cut =
+      let e : at + w - at ≡ width slots = omega arith in
+      rw (e, place)
 
-cut-agrees : (slots : Slots) (bytes : List ℕ) (n a e f : ℕ) (b : Bool)
-    → b ≡ same (digestOf (slots .kind) (part bytes a e)) (part (slots .bytes) (width slots * n) (width slots * n + width slots)) → e ≡ f → b ≡ agrees slots n (part bytes a f)
-unfolding agrees
-cut-agrees slots bytes n a e f b h q =
-    h ∙ ap (same (digestOf (slots .kind) (part bytes a e))) (slot-cut slots n) ∙ ap (λ (x : ℕ). same (digestOf (slots .kind) (part bytes a x)) (slotAt slots n)) q
+  cut-agrees : (bytes : List ℕ) (a e f : ℕ) (b : Bool)
+      → b ≡ same (digestOf (slots .kind) (part bytes a e)) (part (slots .bytes) at (at + w)) → e ≡ f → b ≡ agrees slots n (part bytes a f)
+  unfolding agrees
+  cut-agrees bytes a e f b h q =
+      h ∙ ap (same (digestOf (slots .kind) (part bytes a e))) slot-cut
+      ∙ ap (λ (x : ℕ). same (digestOf (slots .kind) (part bytes a x)) (slotAt slots n)) q
 
-pub cut-mark : (slots : Slots) (bytes : List ℕ) (n a e f v : ℕ) (b : Bool)
-    → b ≡ same (digestOf (slots .kind) (part bytes a e)) (part (slots .bytes) (width slots * n) (width slots * n + width slots)) → e ≡ f
-    → v ≡ cond {A = ℕ} b 0 1 → v ≡ markOf slots n (part bytes a f)
-cut-mark slots bytes n a e f v b h q w = w ∙ mark-of slots n (part bytes a f) b (cut-agrees slots bytes n a e f b h q)
+  pub cut-mark : (bytes : List ℕ) (a e f v : ℕ) (b : Bool)
+      → b ≡ same (digestOf (slots .kind) (part bytes a e)) (part (slots .bytes) at (at + w)) → e ≡ f
+      → v ≡ cond {A = ℕ} b 0 1 → v ≡ markOf slots n (part bytes a f)
+  cut-mark bytes a e f v b h q t = t ∙ mark-of slots n (part bytes a f) b (cut-agrees bytes a e f b h q)
 
 -- the mark is 0 exactly when the slot holds the digest
 pub mark-exact : (slots : Slots) (i : ℕ) (bytes : List ℕ) → (markOf slots i bytes ≡ 0) ↔ (digestOf (slots .kind) bytes ≡ slotAt slots i)
@@ -144,7 +147,7 @@ page-of p limit slots first n bytes i h u =
     record {
       after = omega arith;
       here = omega arith;
-      slot = omega arith;
+      slot = omega (arith, slot-end (width slots) (first + i) (first + n) (omega arith), h .slotted);
       held = omega (arith, le-min {k = pageEnd p limit (first + i)} (le-trans (min-le-left (p * (first + i + 1)) limit) (mul-le-mul-left {n = first + n} p (omega arith))) (min-le-right (p * (first + i + 1)) limit));
     }
 
@@ -180,7 +183,7 @@ module _ (p limit : ℕ) (slots : Slots) (start size : ℕ) (bytes marks : List 
       rw n
       (record {
         here = omega (arith, h .marked);
-        slotted = omega (arith, h .slotted, h .marked);
+        slotted = le-trans (mul-le-mul-left (width slots) (omega (arith, h .marked))) (h .slotted);
         held = rw (j, e) (omega (arith, h .exact));
       })
 

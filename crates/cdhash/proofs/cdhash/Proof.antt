@@ -9,7 +9,7 @@ use Rattle.layout.specs.CodeDirectory.{sha256Type}
 use Rattle.layout.specs.TrustCache.{cdhashLength}
 use Rattle.layout.proofs.Widths.{width-256}
 use Rattle.digest.specs.Kinds.{digestOf}
-use Rattle.digest.proofs.Kinds.{sha256-kind}
+use Rattle.digest.proofs.ByKind.{sha256-kind}
 use Rattle.digest.proofs.Digests.{digest-length}
 use Rattle.cdhash.specs.Hash.{cdhash}
 use borrow.Author.Needs.{needs}

@@ -1,8 +1,10 @@
 -- The page lies in the bytes and its slot in the slots, so that both parts can be cut; the mark is what their comparison says.
 use native.Mathlib.Omega.{arith}
 use Prim.Native.Nat.{_-_, _*_}
+use denote.Ref.{now}
 use Rattle.geometry.specs.Pages.{pageEnd}
 use Rattle.geometry.proofs.Pages.{count-of, Within, within}
+use Rattle.marks.specs.Marks.{slotsOfKind}
 use Rattle.marks.proofs.Marking.{cut-mark}
 use borrow.Author.Needs.{needs}
 use Rattle.marks.proofs.mark_page.Statement.{statement}
@@ -28,17 +30,20 @@ page-end-requires c κs = let f = inside c in omega arith
 sub-end : tie.Need-sub-end
 sub-end c = let f = inside (c .before) in omega arith
 
-mul-slot : tie.Need-mul-slot
-mul-slot c = search needs
+slot-bytes-requires : tie.Need-slot-bytes-requires
+slot-bytes-requires c κs = omega (arith, c .before .before .before .pre .slot)
+
+slot-width-requires : tie.Need-slot-width-requires
+slot-width-requires c κs = search needs
 
 add-next : tie.Need-add-next
 add-next c = search needs
 
 sub-agrees : tie.Need-sub-agrees
-sub-agrees c = let f = inside (c .before) in omega arith
+sub-agrees c = let f = inside (c .before .before .before) in omega arith
 
 part-agrees-start : tie.Need-part-agrees-start
-part-agrees-start c = let f = inside (c .before) in omega arith
+part-agrees-start c = let f = inside (c .before .before .before) in omega arith
 
 part-agrees-end : tie.Need-part-agrees-end
 part-agrees-end c = search needs
@@ -57,16 +62,18 @@ agrees-requires c κs = search needs
 
 returns : tie.Need-returns
 returns c =
-    let b = c .before .before .before .before in
+    let b = c .before .before .before .before .before .before in
     let a = b .before .before .before .args in
-    cut-mark _ _ _ _ (b .page-end .result - a .p * a .from) (pageEnd (a .p) (a .limit) (a .n) - a .p * a .from) _ _
+    cut-mark (slotsOfKind (a .kind) (now (a .slots))) (a .n) _ _ (c .before .before .before .before .before .slot-bytes .ensures) (c .before .before .before .before .slot-width .ensures .0)
+    _ _ (b .page-end .result - a .p * a .from) (pageEnd (a .p) (a .limit) (a .n) - a .p * a .from) _ _
     (c .before .agrees .ensures) (omega arith) (rw (c .if1 .taken))
 
 returns-2 : tie.Need-returns-2
 returns-2 c =
-    let b = c .before .before .before .before in
+    let b = c .before .before .before .before .before .before in
     let a = b .before .before .before .args in
-    cut-mark _ _ _ _ (b .page-end .result - a .p * a .from) (pageEnd (a .p) (a .limit) (a .n) - a .p * a .from) _ _
+    cut-mark (slotsOfKind (a .kind) (now (a .slots))) (a .n) _ _ (c .before .before .before .before .before .slot-bytes .ensures) (c .before .before .before .before .slot-width .ensures .0)
+    _ _ (b .page-end .result - a .p * a .from) (pageEnd (a .p) (a .limit) (a .n) - a .p * a .from) _ _
     (c .before .agrees .ensures) (omega arith) (rw (c .if1 .left))
 
 pub mark-page-spec : {M : Type 1} → statement M
@@ -78,7 +85,8 @@ mark-page-spec =
     sub-start
     page-end-requires
     sub-end
-    mul-slot
+    slot-bytes-requires
+    slot-width-requires
     add-next
     sub-agrees
     part-agrees-start

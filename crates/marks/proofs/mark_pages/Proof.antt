@@ -6,23 +6,28 @@ use mathlib.Core.List.{List, _++_}
 use Prim.Native.Nat.{ℕ}
 use denote.Ref.{now}
 use lib.ListN.{length, drop, set, length-set}
-use Rattle.marks.specs.Marks.{markIn, tab, marksFrom}
+use Rattle.geometry.proofs.Pages.{count-most}
+use Rattle.marks.specs.Marks.{slotsOfKind, markIn, tab, marksFrom}
 use Rattle.marks.proofs.Tabs.{tab-none, tab-more, tab-all}
 use Rattle.marks.proofs.Marking.{page-of}
 use Rattle.marks.proofs.mark_pages.Statement.{statement}
 use Rattle.marks.proofs.mark_pages.Tie as tie
 
 abbrev Inv-loop : tie.InvT-loop
-Inv-loop p limit slots from bytes marks₀ i₀ marks i = (i ≤ length marks₀) × ((length marks ≡ length marks₀) × (marks ≡ tab from i (markIn p limit slots from bytes) ++ drop i marks₀))
+Inv-loop p limit kind slots from bytes marks₀ i₀ marks i =
+    (i ≤ length marks₀)
+    × ((length marks ≡ length marks₀) × (marks ≡ tab from i (markIn p limit (slotsOfKind kind slots) from bytes) ++ drop i marks₀))
 
 abbrev μ-loop : tie.MeasureT-loop
-μ-loop p limit slots from bytes marks₀ i₀ marks i = length marks₀ - i
+μ-loop p limit kind slots from bytes marks₀ i₀ marks i = length marks₀ - i
 
 loop-holds : tie.Need-loop-holds Inv-loop μ-loop
 loop-holds c = (omega arith, (refl, tab-none _ _ _))
 
 add-mark-page : tie.Need-add-mark-page Inv-loop μ-loop
-add-mark-page c = let h = c .before .before .before .before .before .pre in omega arith
+add-mark-page c =
+    let b = c .before .before .before .before .before in
+    omega (arith, b .pre .here, count-most (b .args .p) (b .args .limit))
 
 mark-page-requires : tie.Need-mark-page-requires Inv-loop μ-loop
 mark-page-requires c κs = let b = c .before .before .before .before .before in page-of _ _ _ _ (length (now (b .args .marks))) _ (c .before .loop .i) (b .pre) (omega arith)

@@ -1,5 +1,5 @@
 -- The five ways of slot and thing are the five lines of `faultOf`. Assumes nothing.
-use Rattle.digest.proofs.Kinds.{sha256-kind}
+use Rattle.digest.proofs.ByKind.{sha256-kind}
 use Rattle.slots.proofs.Laws.{fault-empty, fault-none, fault-missing, fault-agrees, fault-differs}
 use borrow.Author.Needs.{needs}
 use Rattle.slots.proofs.fault_of.Statement.{statement}
