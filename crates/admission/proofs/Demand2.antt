@@ -13,7 +13,8 @@ use borrow.Author.Tests.{eqb-true}
 use Rattle.endian.proofs.Numbers.{take-small}
 use Rattle.sha.specs.Hash.{digest}
 use Rattle.sha.specs.Sha2.{sha256}
-use Rattle.digest.proofs.Digests.{digest-small, digest-length}
+use Rattle.sha.proofs.Digests.{digest-small, digest-length}
+use Rattle.digest.proofs.ByKind.{sha256-kind}
 use Rattle.layout.specs.TrustCache.{cdhashLength}
 use Rattle.refusals.specs.declared.Answer.{Answer}
 use Rattle.refusals.specs.Refusals.{_≡?_, holds, Row, refuse, accepted, first, Passes}
@@ -49,8 +50,8 @@ use Rattle.admission.proofs.Outcomes.{answer-passes, whole-marks}
 entry-hash : EntryHash
 unfolding cdhash
 entry-hash c i d h w l =
-    hash-equal c i (take cdhashLength (digest sha256 d)) h (take-small cdhashLength (digest sha256 d) (digest-small d))
-    (length-take-le cdhashLength (digest sha256 d) (omega (arith, digest-length d))) w l
+    hash-equal c i (take cdhashLength (digest sha256 d)) h (take-small cdhashLength (digest sha256 d) (digest-small sha256 d))
+    (length-take-le cdhashLength (digest sha256 d) (omega (arith, digest-length sha256 d (omega arith)))) w l
 
 -- THE WHOLE CHECK
 
@@ -156,6 +157,7 @@ demand2 =
             several-numbers = among-plainly;
             page-size = pageBytes-power;
             agrees-exactly = agrees-equal;
+            kind-taken = sha256-kind;
             code-slots = slot-is;
             hash-order = hash-less;
             entry-hash = entry-hash;

@@ -7,8 +7,9 @@ use borrow.Author.Needs.{needs}
 use Rattle.admission.proofs.rewrite_marks.Statement.{statement}
 use Rattle.admission.proofs.rewrite_marks.Tie as tie
 
-inside : (c : tie.After-code-slots) → Inside (c .before .before .first-met .result) (c .before .end-met .result) (length (now (c .before .before .before .before .before .before .before .before .args .marks)))
-inside c = met-inside _ _ _ _ (c .before .before .before .before .page-size .ensures) (c .before .before .before .code-limit .ensures) (c .code-slots .ensures) _ _ _ _ (c .before .before .before .before .before .before .before .before .pre) _ _ (c .before .before .first-met .ensures) (c .before .end-met .ensures)
+inside : (c : tie.After-code-slots) → Inside (c .before .before .before .first-met .result) (c .before .before .end-met .result) (length (now (c .before .before .before .before .before .before .before .before .before .args .marks)))
+inside c =
+    met-inside _ _ _ _ _ (c .before .before .before .before .before .page-size .ensures) (c .before .before .before .before .code-limit .ensures) (c .before .read .ensures .hashType-is) (c .code-slots .ensures) _ _ _ _ (c .before .before .before .before .before .before .before .before .before .pre) _ _ (c .before .before .before .first-met .ensures) (c .before .before .end-met .ensures)
 
 page-size-requires : tie.Need-page-size-requires
 page-size-requires c κs = search needs
@@ -21,6 +22,9 @@ first-met-requires c κs = search needs
 
 end-met-requires : tie.Need-end-met-requires
 end-met-requires c κs = search needs
+
+read-requires : tie.Need-read-requires
+read-requires c κs = search needs
 
 code-slots-requires : tie.Need-code-slots-requires
 code-slots-requires c κs = search needs
@@ -35,13 +39,15 @@ part-mark-pages-end : tie.Need-part-mark-pages-end
 part-mark-pages-end c = let m = inside c in omega arith
 
 mark-pages-requires : tie.Need-mark-pages-requires
-mark-pages-requires c κs = met-here _ _ _ _ (c .before .before .before .before .before .page-size .ensures) (c .before .before .before .before .code-limit .ensures) (c .before .code-slots .ensures) _ _ _ _ (c .before .before .before .before .before .before .before .before .before .pre) _ _ (c .before .before .before .first-met .ensures) (c .before .before .end-met .ensures)
+mark-pages-requires c κs =
+    met-here _ _ _ _ _ (c .before .before .before .before .before .before .page-size .ensures) (c .before .before .before .before .before .code-limit .ensures) (c .before .before .read .ensures .hashType-is) (c .before .code-slots .ensures) _ _ _ _ (c .before .before .before .before .before .before .before .before .before .before .pre) _ _ (c .before .before .before .before .first-met .ensures) (c .before .before .before .end-met .ensures)
 
 same-length : tie.Need-same-length
 same-length c = search needs
 
 returns : tie.Need-returns
-returns c = met-marked _ _ _ _ (c .before .before .before .before .before .before .before .before .page-size .ensures) (c .before .before .before .before .before .before .before .code-limit .ensures) (c .before .before .before .before .code-slots .ensures) _ _ _ _ (c .before .before .before .before .before .before .before .before .before .before .before .before .pre) _ _ (c .before .before .before .before .before .before .first-met .ensures) (c .before .before .before .before .before .end-met .ensures) _ (c .before .before .mark-pages .ensures)
+returns c =
+    met-marked _ _ _ _ _ (c .before .before .before .before .before .before .before .before .before .page-size .ensures) (c .before .before .before .before .before .before .before .before .code-limit .ensures) (c .before .before .before .before .before .read .ensures .hashType-is) (c .before .before .before .before .code-slots .ensures) _ _ _ _ (c .before .before .before .before .before .before .before .before .before .before .before .before .before .pre) _ _ (c .before .before .before .before .before .before .before .first-met .ensures) (c .before .before .before .before .before .before .end-met .ensures) _ (c .before .before .mark-pages .ensures)
 
 pub rewrite-marks-spec : {M : Type 1} → statement M
 rewrite-marks-spec =
@@ -51,6 +57,7 @@ rewrite-marks-spec =
     code-limit-requires
     first-met-requires
     end-met-requires
+    read-requires
     code-slots-requires
     sub-mark-pages
     part-mark-pages-start

@@ -10,17 +10,22 @@ page-size-requires c κs = search needs
 code-limit-requires : tie.Need-code-limit-requires
 code-limit-requires c κs = search needs
 
+read-requires : tie.Need-read-requires
+read-requires c κs = search needs
+
 code-slots-requires : tie.Need-code-slots-requires
 code-slots-requires c κs = search needs
 
 mark-pages-requires : tie.Need-mark-pages-requires
-mark-pages-requires c κs = all-here _ _ _ _ (c .before .before .before .page-size .ensures) (c .before .before .code-limit .ensures) (c .before .code-slots .ensures) _ _ (c .before .before .before .before .before .before .before .pre)
+mark-pages-requires c κs =
+    all-here _ _ _ _ _ (c .before .before .before .before .page-size .ensures) (c .before .before .before .code-limit .ensures) (c .before .before .read .ensures .hashType-is) (c .before .code-slots .ensures) _ _ (c .before .before .before .before .before .before .before .before .pre)
 
 same-length : tie.Need-same-length
 same-length c = search needs
 
 returns : tie.Need-returns
-returns c = all-marked _ _ _ _ (c .before .before .before .before .before .before .page-size .ensures) (c .before .before .before .before .before .code-limit .ensures) (c .before .before .before .before .code-slots .ensures) _ _ (c .before .before .before .before .before .before .before .before .before .before .pre) _ (c .before .before .mark-pages .ensures)
+returns c =
+    all-marked _ _ _ _ _ (c .before .before .before .before .before .before .before .page-size .ensures) (c .before .before .before .before .before .before .code-limit .ensures) (c .before .before .before .before .before .read .ensures .hashType-is) (c .before .before .before .before .code-slots .ensures) _ _ (c .before .before .before .before .before .before .before .before .before .before .before .pre) _ (c .before .before .mark-pages .ensures)
 
 pub write-marks-spec : {M : Type 1} → statement M
 write-marks-spec =
@@ -28,6 +33,7 @@ write-marks-spec =
     (tie.spec
     page-size-requires
     code-limit-requires
+    read-requires
     code-slots-requires
     mark-pages-requires
     same-length

@@ -19,12 +19,12 @@ agrees-requires c κs = search needs
 
 returns-3 : tie.Need-returns-3
 returns-3 c =
-    let k = sha256-kind (c .before .before .before .args .thing .now) in
+    let k = sha256-kind (c .before .before .before .before .before .before .before .args .thing .now) in
     fault-agrees _ _ _ (cc) (cc) (cc)
 
 returns-4 : tie.Need-returns-4
 returns-4 c =
-    let k = sha256-kind (c .before .before .before .args .thing .now) in
+    let k = sha256-kind (c .before .before .before .before .before .before .before .args .thing .now) in
     fault-differs _ _ _ (cc) (cc) (cc)
 
 returns-5 : tie.Need-returns-5
