@@ -2,7 +2,7 @@
 use Prim.Native.Nat.{_-_, _/_, _≤_}
 use mathlib.Core.Path.{refl}
 use borrow.Author.Needs.{needs}
-use Rattle.digest.specs.Sha256.{k256}
+use Rattle.sha.specs.Sha2.{k256}
 use Rattle.digest_vectors.proofs.print_pieces.Statement.{statement}
 use Rattle.digest_vectors.proofs.print_pieces.Tie as tie
 
