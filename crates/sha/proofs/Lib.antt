@@ -5,5 +5,6 @@ pub mod Digests
 pub mod Windows
 pub mod Rounds
 pub mod Rounds1
+pub mod Sigmas
 pub mod Short
 pub mod Examples

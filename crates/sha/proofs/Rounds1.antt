@@ -5,8 +5,8 @@ use Prim.Native.Nat.{ℕ, suc, _+_, _-_, _%_, _<_, _≤_}
 use native.Mathlib.Omega.{arith}
 use lib.ListN.{getD, set}
 use borrow.Author.Tests.{lt-ltb, le-ltb}
-use Rattle.sha.specs.Words.{plus, sums}
-use Rattle.sha.specs.Sha1.{byRound, mix1, mixed1, round1, rounds1}
+use Rattle.sha.specs.Words.{plus, rotl, sums}
+use Rattle.sha.specs.Sha1.{byRound, mix1, mixed1, temp, round1, rounds1}
 use Rattle.sha.specs.Window.{renewed}
 use Rattle.sha.proofs.Windows.{Local}
 
@@ -51,6 +51,12 @@ renewed1-of w t v ev =
 pub rounds1-follow : (h ws : List ℕ) (t : ℕ) → rounds1 (suc t) h ws ≡ round1 t (rounds1 t h ws) (getD ws t 0)
 unfolding rounds1
 rounds1-follow h ws t = refl
+
+pub round1-of : (t : ℕ) (s : List ℕ) (w : ℕ) {x c : ℕ}
+    → x ≡ temp t (getD s 0 0) (getD s 1 0) (getD s 2 0) (getD s 3 0) (getD s 4 0) w → c ≡ rotl 32 30 (getD s 1 0)
+    → x ∷ getD s 0 0 ∷ c ∷ getD s 2 0 ∷ getD s 3 0 ∷ [] ≡ round1 t s w
+unfolding round1
+round1-of t s w hx hc = rw (hx, hc)
 
 -- the closing sum, of five words
 pub sums-five : (w : ℕ) (h s : List ℕ) {a b c d e : ℕ}

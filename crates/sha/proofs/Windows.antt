@@ -95,6 +95,34 @@ module _ (f : Rule) (near : Local f) (n : ℕ) (ms : List ℕ) (sixteen : length
       let e : t + suc k ≡ t + k + 1 = omega arith in
       rw e (held-renewed (t + k) (i + k) (rolled f i k w) (omega arith) (held-rolled t i k w at o))
 
+-- EIGHT CALLS, each with what the one before gave
+
+pub rolled-eight : (f : Rule) (i : ℕ) (w : List ℕ) {w₁ w₂ w₃ w₄ w₅ w₆ w₇ w₈ : List ℕ}
+    → w₁ ≡ renewed f (i + 0) w
+    → w₂ ≡ renewed f (i + 1) w₁
+    → w₃ ≡ renewed f (i + 2) w₂
+    → w₄ ≡ renewed f (i + 3) w₃
+    → w₅ ≡ renewed f (i + 4) w₄
+    → w₆ ≡ renewed f (i + 5) w₅
+    → w₇ ≡ renewed f (i + 6) w₆
+    → w₈ ≡ renewed f (i + 7) w₇
+    → w₈ ≡ rolled f i 8 w
+unfolding rolled
+rolled-eight f i w e₁ e₂ e₃ e₄ e₅ e₆ e₇ e₈ = rw (e₈, e₇, e₆, e₅, e₄, e₃, e₂, e₁)
+
+pub ran-eight : (g : Round) (t i : ℕ) (s w : List ℕ) {s₁ s₂ s₃ s₄ s₅ s₆ s₇ s₈ : List ℕ}
+    → s₁ ≡ g (t + (i + 0)) s (getD w ((i + 0) % 16) 0)
+    → s₂ ≡ g (t + (i + 1)) s₁ (getD w ((i + 1) % 16) 0)
+    → s₃ ≡ g (t + (i + 2)) s₂ (getD w ((i + 2) % 16) 0)
+    → s₄ ≡ g (t + (i + 3)) s₃ (getD w ((i + 3) % 16) 0)
+    → s₅ ≡ g (t + (i + 4)) s₄ (getD w ((i + 4) % 16) 0)
+    → s₆ ≡ g (t + (i + 5)) s₅ (getD w ((i + 5) % 16) 0)
+    → s₇ ≡ g (t + (i + 6)) s₆ (getD w ((i + 6) % 16) 0)
+    → s₈ ≡ g (t + (i + 7)) s₇ (getD w ((i + 7) % 16) 0)
+    → s₈ ≡ ran g t i 8 s w
+unfolding ran
+ran-eight g t i s w e₁ e₂ e₃ e₄ e₅ e₆ e₇ e₈ = rw (e₈, e₇, e₆, e₅, e₄, e₃, e₂, e₁)
+
 -- THE ROUNDS: those with the words kept are those with the schedule, whose working words after t rounds are `after t`
 module _ (g : Round) (after : ℕ → List ℕ) (n : ℕ) (ws : List ℕ) (more : (t : ℕ) → after (suc t) ≡ g t (after t) (getD ws t 0)) where
   pub round-held : (t : ℕ) (w : List ℕ) {s r : List ℕ} → t < n → Held n ws t w → s ≡ after t → r ≡ g t s (getD w (t % 16) 0) → r ≡ after (t + 1)

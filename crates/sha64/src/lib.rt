@@ -14,7 +14,7 @@ ghost use Prim.Native.Nat.{_/_, _%_};
 ghost use lib.ListN.{length};
 ghost use Rattle.sha.specs.Message.{allBytes, padding};
 ghost use Rattle.sha.specs.Hash.{chain, chained, digest};
-ghost use Rattle.sha.specs.Sha2.{k512, sha384};
+ghost use Rattle.sha.specs.Sha2.{k512, h384, sha384};
 
 // The initial hash value, FIPS 180-4, section 5.3.4.
 pub const H384: [u64; 8] = [
@@ -27,6 +27,13 @@ pub const H384: [u64; 8] = [
     0xdb0c2e0d64f98fa7,
     0x47b5481dbefa4fa4,
 ];
+
+// The initial hash value, by value.
+fn start() -> [u64; 8]
+    ensures { λ r. ⌜ r ≡ h384 ⌝ }
+{
+    H384
+}
 
 // The hash value after the whole blocks of a part; the bytes behind them are not read.
 pub fn absorb(h: [u64; 8], part: &[u8], k: &[u64; 80]) -> [u64; 8]
@@ -78,6 +85,6 @@ pub fn digest(part: &[u8]) -> [u8; 48]
 {
     let at = 128 * (part.len() / 128);
     let k = K512;
-    let v = absorb(H384, part, &k);
+    let v = absorb(start(), part, &k);
     write_value(finish(v, &part[at..], part.len(), &k))
 }

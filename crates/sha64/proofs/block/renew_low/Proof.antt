@@ -1,5 +1,6 @@
--- Eight words, one after the other. Assumes nothing.
-use Rattle.sha.specs.Window.{rolled}
+-- Eight words, one after the other (`rolled-eight`). Assumes nothing.
+use Rattle.sha.specs.Sha2.{core512, mixed}
+use Rattle.sha.proofs.Windows.{rolled-eight}
 use borrow.Author.Needs.{needs}
 use Rattle.sha64.proofs.block.renew_low.Statement.{statement}
 use Rattle.sha64.proofs.block.renew_low.Tie as tie
@@ -29,8 +30,16 @@ renew-word-requires-8 : tie.Need-renew-word-requires-8
 renew-word-requires-8 c κs = search needs
 
 returns : tie.Need-returns
-unfolding rolled
-returns c = cc
+returns c =
+    rolled-eight (mixed core512) 0 _
+    (c .before .before .before .before .before .before .before .renew-word .ensures)
+    (c .before .before .before .before .before .before .renew-word2 .ensures)
+    (c .before .before .before .before .before .renew-word3 .ensures)
+    (c .before .before .before .before .renew-word4 .ensures)
+    (c .before .before .before .renew-word5 .ensures)
+    (c .before .before .renew-word6 .ensures)
+    (c .before .renew-word7 .ensures)
+    (c .renew-word8 .ensures)
 
 pub renew-low-spec : {M : Type 1} → statement M
 renew-low-spec =

@@ -1,5 +1,7 @@
--- Eight rounds, one after the other. Assumes nothing.
-use Rattle.sha.specs.Window.{ran}
+-- Eight rounds, one after the other (`ran-eight`). Assumes nothing.
+use Rattle.sha.specs.Sha2.{core512}
+use Rattle.sha.specs.Window.{stage}
+use Rattle.sha.proofs.Windows.{ran-eight}
 use borrow.Author.Needs.{needs}
 use Rattle.sha64.proofs.block.rounds_high.Statement.{statement}
 use Rattle.sha64.proofs.block.rounds_high.Tie as tie
@@ -29,8 +31,16 @@ round-at-requires-8 : tie.Need-round-at-requires-8
 round-at-requires-8 c κs = search needs
 
 returns : tie.Need-returns
-unfolding ran
-returns c = cc
+returns c =
+    ran-eight (stage core512) _ 8 _ _
+    (c .before .before .before .before .before .before .before .round-at .ensures)
+    (c .before .before .before .before .before .before .round-at2 .ensures)
+    (c .before .before .before .before .before .round-at3 .ensures)
+    (c .before .before .before .before .round-at4 .ensures)
+    (c .before .before .before .round-at5 .ensures)
+    (c .before .before .round-at6 .ensures)
+    (c .before .round-at7 .ensures)
+    (c .round-at8 .ensures)
 
 pub rounds-high-spec : {M : Type 1} → statement M
 rounds-high-spec =
