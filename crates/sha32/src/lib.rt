@@ -7,6 +7,7 @@ mod sha1;
 mod sha256;
 mod word;
 
+use load::load_block;
 pub use sha256::K256;
 ghost use mathlib.Core.Path.{_≡_};
 ghost use mathlib.Core.List.{_++_};
@@ -62,12 +63,13 @@ fn compress_block(function: Function, h: [u32; 8], b: &[u8], at: usize, k: &[u32
     requires { ⌜ (at + 64 ≤ length (now b)) × (now k ≡ k256) ⌝ }
     ensures { λ r. ⌜ take (hash32 function .count) r ≡ hash32 function .block (take (hash32 function .count) h) (words 4 16 (now (b .entry)) at) ⌝ }
 {
+    let m = load_block(b, at);
     match function {
         Function::Sha1 => {
-            let v = sha1::compress_block([h[0], h[1], h[2], h[3], h[4]], b, at);
+            let v = sha1::compress_block([h[0], h[1], h[2], h[3], h[4]], m);
             [v[0], v[1], v[2], v[3], v[4], 0, 0, 0]
         }
-        Function::Sha256 => sha256::compress_block(h, b, at, k),
+        Function::Sha256 => sha256::compress_block(h, m, k),
     }
 }
 

@@ -2,17 +2,14 @@
 //
 // Names are the standard's: a block's words w, the working words s (a to e), T, the hash value h. Sixteen words of the schedule are kept:
 // each new one stands in the place of the one sixteen before it.
-use super::load::load_block;
 use super::word::add;
 use super::word::choose;
 use super::word::majority;
 use super::word::parity;
 use super::word::rotate_left;
 ghost use mathlib.Core.Path.{_≡_};
-ghost use Prim.Native.Nat.{_+_, _≤_};
-ghost use lib.ListN.{length, getD};
+ghost use lib.ListN.{getD};
 ghost use Rattle.sha.specs.Words.{sums};
-ghost use Rattle.sha.specs.Message.{words};
 ghost use Rattle.sha.specs.Sha1.{f1, k1, mix1, temp, round1, rounds1, schedule1, compress1};
 
 // The function of round t, section 4.1.1.
@@ -103,10 +100,9 @@ fn add_words(h: [u32; 5], s: [u32; 5]) -> [u32; 5]
     ]
 }
 
-// The hash value after the block at byte `at`.
-pub fn compress_block(h: [u32; 5], b: &[u8], at: usize) -> [u32; 5]
-    requires { ⌜ at + 64 ≤ length (now b) ⌝ }
-    ensures { λ r. ⌜ r ≡ compress1 h (words 4 16 (now (b .entry)) at) ⌝ }
+// The hash value after one more block of sixteen words.
+pub fn compress_block(h: [u32; 5], m: [u32; 16]) -> [u32; 5]
+    ensures { λ r. ⌜ r ≡ compress1 h m ⌝ }
 {
-    add_words(h, run_rounds(h, load_block(b, at)))
+    add_words(h, run_rounds(h, m))
 }

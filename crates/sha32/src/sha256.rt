@@ -2,7 +2,6 @@
 //
 // Names are the standard's: a block's words w, the working words s (a to h), T1 and T2, the hash value h. Eight rounds a turn and a
 // table that is lent cost less than one round a turn and a table built for every block.
-use super::load::load_block;
 use super::word::add;
 use super::word::big_sigma0;
 use super::word::big_sigma1;
@@ -11,10 +10,8 @@ use super::word::majority;
 use super::word::small_sigma0;
 use super::word::small_sigma1;
 ghost use mathlib.Core.Path.{_≡_};
-ghost use Prim.Native.Nat.{_+_, _≤_};
-ghost use lib.ListN.{length, take};
+ghost use lib.ListN.{take};
 ghost use Rattle.sha.specs.Words.{sums};
-ghost use Rattle.sha.specs.Message.{words};
 ghost use Rattle.sha.specs.Sha2.{t1, t2, round, rounds, mix, schedule, compress, core256, k256};
 
 // The round constants, section 4.2.2.
@@ -185,11 +182,11 @@ fn run_rounds(h: [u32; 8], w: [u32; 64], k: &[u32; 64]) -> [u32; 8]
     s
 }
 
-// The hash value after the block at byte `at`.
-pub fn compress_block(h: [u32; 8], b: &[u8], at: usize, k: &[u32; 64]) -> [u32; 8]
-    requires { ⌜ (at + 64 ≤ length (now b)) × (now k ≡ k256) ⌝ }
-    ensures { λ r. ⌜ r ≡ compress core256 h (words 4 16 (now (b .entry)) at) ⌝ }
+// The hash value after one more block of sixteen words.
+pub fn compress_block(h: [u32; 8], m: [u32; 16], k: &[u32; 64]) -> [u32; 8]
+    requires { ⌜ now k ≡ k256 ⌝ }
+    ensures { λ r. ⌜ r ≡ compress core256 h m ⌝ }
 {
-    let w = extend_schedule(open_schedule(load_block(b, at)));
+    let w = extend_schedule(open_schedule(m));
     add_words(h, run_rounds(h, w, k))
 }

@@ -4,9 +4,6 @@ use borrow.Author.Needs.{needs}
 use Rattle.sha32.proofs.sha256.compress_block.Statement.{statement}
 use Rattle.sha32.proofs.sha256.compress_block.Tie as tie
 
-load-block-requires : tie.Need-load-block-requires
-load-block-requires c κs = search needs
-
 open-schedule-requires : tie.Need-open-schedule-requires
 open-schedule-requires c κs = search needs
 
@@ -25,4 +22,4 @@ returns c = cc
 
 pub compress-block-spec : {M : Type 1} → statement M
 compress-block-spec =
-    tie.close (tie.spec load-block-requires open-schedule-requires extend-schedule-requires run-rounds-requires add-words-requires returns)
+    tie.close (tie.spec open-schedule-requires extend-schedule-requires run-rounds-requires add-words-requires returns)
