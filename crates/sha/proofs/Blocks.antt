@@ -69,6 +69,12 @@ chain-split f h l p n (suc k) le =
     ∙ sym (words-drop (f .size) 16 (16 * f .size * n) (l ++ p) (16 * f .size * k))
     ∙ ap (λ (x : List ℕ). words (f .size) 16 x (16 * f .size * k)) (drop-append-le (16 * f .size * n) l p le))
 
+-- one block more; z is the bytes of a word
+pub chain-more : (f : Hash) (z : ℕ) → f .size ≡ z → (h m : List ℕ) (i : ℕ) {v r : List ℕ} → v ≡ chain f h m i → r ≡ f .block v (words z 16 m (16 * z * i))
+    → r ≡ chain f h m (i + 1)
+unfolding chain
+chain-more f z ez h m i ev er = rw (add-one i, er, ev, ez)
+
 -- STORES
 
 -- one more element of an array that is filled from its start
@@ -157,12 +163,6 @@ all-bytes-more z i h out r le e er =
     ∙ take-at (take (z * i) out ++ bytes z (getD h i 0)) (drop (z * i + z) out) (z * (i + 1)) n
     ∙ rw (add-one i, e)
 
--- one block more; z is the bytes of a word
-pub chain-more : (f : Hash) (z : ℕ) → f .size ≡ z → (h m : List ℕ) (i : ℕ) {v r : List ℕ} → v ≡ chain f h m i → r ≡ f .block v (words z 16 m (16 * z * i))
-    → r ≡ chain f h m (i + 1)
-unfolding chain
-chain-more f z ez h m i ev er = rw (add-one i, er, ev, ez)
-
 pub length-all-bytes : (z n : ℕ) (xs : List ℕ) → length (allBytes z n xs) ≡ z * n
 unfolding allBytes
 length-all-bytes z zero xs = omega arith
@@ -170,24 +170,24 @@ length-all-bytes z (suc n) xs =
     length-append (allBytes z n xs) (bytes z (getD xs n 0))
     ∙ ap₂ (λ (x y : ℕ). x + y) (length-all-bytes z n xs) (length-bytes z (getD xs n 0)) ∙ sym (mul-suc z n)
 
--- THE LAST BLOCKS
-
-pub open-end : (s : List ℕ) (n i : ℕ) → i ≡ length s → i < n → set (take i s ++ replicate (n - i) 0) i 128 ≡ s ++ 128 ∷ replicate (n - 1 - length s) 0
-open-end s n i e h =
-    let k : n - i ≡ n - 1 - length s + 1 = omega arith in
-    rw (k, take-all i s (omega arith)) (store-zero s (n - 1 - length s) i 128 (omega arith))
-
--- the first words of a list have the same bytes, and are the first bytes
+-- the first words of a list have the same bytes, and their bytes are the first
 pub all-bytes-take : (z n k : ℕ) (xs : List ℕ) → n ≤ k → allBytes z n (take k xs) ≡ allBytes z n xs
 unfolding allBytes
 all-bytes-take z zero k xs h = refl
 all-bytes-take z (suc n) k xs h =
     ap₂ (λ (a : List ℕ) (x : ℕ). a ++ bytes z x) (all-bytes-take z n k xs (omega arith)) (getD-take k xs n 0 (omega arith))
 
-pub take-all-bytes : (z n k : ℕ) (xs : List ℕ) → take (z * n) (allBytes z (n + k) xs) ≡ allBytes z n xs
+pub all-bytes-front : (z n k x : ℕ) (xs : List ℕ) → x ≤ z * n → take x (allBytes z (n + k) xs) ≡ take x (allBytes z n xs)
 unfolding allBytes
-take-all-bytes z n zero xs = rw add-zero (take-all (z * n) (allBytes z n xs) (omega (arith, length-all-bytes z n xs)))
-take-all-bytes z n (suc k) xs =
-    ap (λ (x : ℕ). take (z * n) (allBytes z x xs)) (add-suc n k)
-    ∙ take-append-le (z * n) (allBytes z (n + k) xs) (bytes z (getD xs (n + k) 0)) (omega (arith, length-all-bytes z (n + k) xs, mul-add z n k))
-    ∙ take-all-bytes z n k xs
+all-bytes-front z n zero x xs h = rw add-zero
+all-bytes-front z n (suc k) x xs h =
+    ap (λ (y : ℕ). take x (allBytes z y xs)) (add-suc n k)
+    ∙ take-append-le x (allBytes z (n + k) xs) (bytes z (getD xs (n + k) 0)) (omega (arith, length-all-bytes z (n + k) xs, mul-add z n k))
+    ∙ all-bytes-front z n k x xs h
+
+-- THE LAST BLOCKS
+
+pub open-end : (s : List ℕ) (n i : ℕ) → i ≡ length s → i < n → set (take i s ++ replicate (n - i) 0) i 128 ≡ s ++ 128 ∷ replicate (n - 1 - length s) 0
+open-end s n i e h =
+    let k : n - i ≡ n - 1 - length s + 1 = omega arith in
+    rw (k, take-all i s (omega arith)) (store-zero s (n - 1 - length s) i 128 (omega arith))

@@ -2,6 +2,7 @@
 use Prim.Native.Nat.{ℕ, zero, suc, _*_, _/_, _<_, _≤_}
 use mathlib.Core.List.{List, [], _∷_, _++_}
 use mathlib.Core.Path.{_≡_, refl, sym, ap, _∙_}
+use native.Mathlib.Nat.{add-comm}
 use native.Mathlib.Omega.{arith}
 use lib.ListN.{length, getD, take}
 use lib.Seq.{length-take-le, take-take}
@@ -9,7 +10,7 @@ use Rattle.endian.specs.Numbers.{bytes}
 use Rattle.endian.proofs.Numbers.{take-small}
 use Rattle.sha.specs.Message.{words, padded, allBytes}
 use Rattle.sha.specs.Hash.{Hash, chain, chained, digest}
-use Rattle.sha.proofs.Blocks.{length-all-bytes}
+use Rattle.sha.proofs.Blocks.{length-all-bytes, all-bytes-take, all-bytes-front}
 
 bytes-small : (n x k : ℕ) → getD (bytes n x) k 0 < 256
 unfolding bytes
@@ -39,6 +40,16 @@ module _ (f : Hash) (m : List ℕ) where
   pub digest-length : f .width ≤ f .size * f .count → length (digest f m) ≡ f .width
   unfolding digest
   digest-length h = length-take-le (f .width) (allBytes (f .size) (f .count) value) (omega (arith, length-all-bytes (f .size) (f .count) value))
+
+  -- the digest is at the start of the bytes of words whose first are the hash value
+  pub written : (n : ℕ) (v : List ℕ) → f .width ≤ f .size * n → f .width ≤ f .size * f .count → take (f .count) v ≡ value
+      → take (f .width) (allBytes (f .size) n v) ≡ digest f m
+  unfolding digest
+  written n v hn hc e =
+      sym (all-bytes-front (f .size) n (f .count) (f .width) v hn)
+      ∙ ap (λ (k : ℕ). take (f .width) (allBytes (f .size) k v)) (add-comm n (f .count))
+      ∙ all-bytes-front (f .size) (f .count) n (f .width) v hc
+      ∙ ap (take (f .width)) (sym (all-bytes-take (f .size) (f .count) (f .count) v (omega arith)) ∙ ap (allBytes (f .size) (f .count)) e)
 
 -- a function whose digest is the first n bytes of another's
 abbrev pub cutTo : ℕ → Hash → Hash

@@ -1,4 +1,4 @@
--- Laws of SHA-2's round, schedule and closing sum, over the functions of a word. Assumes nothing.
+-- Laws of SHA-2's round and schedule, over the functions of a word. Assumes nothing.
 use mathlib.Core.Path.{_≡_, refl, _∙_}
 use mathlib.Core.List.{List, [], _∷_}
 use Prim.Native.Nat.{ℕ, suc, _+_, _-_, _%_, _<_}
@@ -7,7 +7,7 @@ use native.Mathlib.Omega.{arith}
 use lib.ListN.{length-set, length, getD, take, set}
 use lib.Seq.{getD-take}
 use native.Mathlib.Nat.{add-suc}
-use Rattle.sha.specs.Words.{plus, sums}
+use Rattle.sha.specs.Words.{plus}
 use Rattle.sha.specs.Schedule.{grown}
 use Rattle.sha.specs.Sha2.{Core, t1, t2, turned, round, rounds, mix, mixed, schedule}
 use Rattle.sha.specs.Window.{renewed, stage}
@@ -24,14 +24,6 @@ pub round-of : (q : Core) (s : List ℕ) (k w : ℕ) {x y a e : ℕ}
     → a ∷ getD s 0 0 ∷ getD s 1 0 ∷ getD s 2 0 ∷ e ∷ getD s 4 0 ∷ getD s 5 0 ∷ getD s 6 0 ∷ [] ≡ round q s k w
 unfolding turned round
 round-of q s k w hx hy ha he = rw (ha, he, hx, hy)
-
-pub sums-eight : (w : ℕ) (h s : List ℕ) {a b c d e f g i : ℕ}
-    → a ≡ plus w (getD h 0 0) (getD s 0 0) → b ≡ plus w (getD h 1 0) (getD s 1 0) → c ≡ plus w (getD h 2 0) (getD s 2 0)
-    → d ≡ plus w (getD h 3 0) (getD s 3 0) → e ≡ plus w (getD h 4 0) (getD s 4 0) → f ≡ plus w (getD h 5 0) (getD s 5 0)
-    → g ≡ plus w (getD h 6 0) (getD s 6 0) → i ≡ plus w (getD h 7 0) (getD s 7 0)
-    → a ∷ b ∷ c ∷ d ∷ e ∷ f ∷ g ∷ i ∷ [] ≡ sums w 8 h s
-unfolding sums
-sums-eight w h s ha hb hc hd he hf hg hi = rw (ha, hb, hc, hd, he, hf, hg, hi)
 
 pub rounds-more : (q : Core) (t : ℕ) (h ws : List ℕ) {s r k : List ℕ}
     → s ≡ rounds q t h ws → k ≡ q .table → r ≡ round q s (getD k t 0) (getD ws t 0) → r ≡ rounds q (t + 1) h ws

@@ -5,7 +5,7 @@ use Prim.Native.Nat.{ℕ, suc, _+_, _-_, _%_, _<_, _≤_}
 use native.Mathlib.Omega.{arith}
 use lib.ListN.{getD, set}
 use borrow.Author.Tests.{lt-ltb, le-ltb}
-use Rattle.sha.specs.Words.{plus, rotl, sums}
+use Rattle.sha.specs.Words.{rotl}
 use Rattle.sha.specs.Sha1.{byRound, mix1, mixed1, temp, round1, rounds1}
 use Rattle.sha.specs.Window.{renewed}
 use Rattle.sha.proofs.Windows.{Local}
@@ -57,11 +57,3 @@ pub round1-of : (t : ℕ) (s : List ℕ) (w : ℕ) {x c : ℕ}
     → x ∷ getD s 0 0 ∷ c ∷ getD s 2 0 ∷ getD s 3 0 ∷ [] ≡ round1 t s w
 unfolding round1
 round1-of t s w hx hc = rw (hx, hc)
-
--- the closing sum, of five words
-pub sums-five : (w : ℕ) (h s : List ℕ) {a b c d e : ℕ}
-    → a ≡ plus w (getD h 0 0) (getD s 0 0) → b ≡ plus w (getD h 1 0) (getD s 1 0) → c ≡ plus w (getD h 2 0) (getD s 2 0)
-    → d ≡ plus w (getD h 3 0) (getD s 3 0) → e ≡ plus w (getD h 4 0) (getD s 4 0)
-    → a ∷ b ∷ c ∷ d ∷ e ∷ [] ≡ sums w 5 h s
-unfolding sums
-sums-five w h s ha hb hc hd he = rw (ha, hb, hc, hd, he)

@@ -9,7 +9,7 @@ use Rattle.sha.specs.Message.{allBytes, padded}
 use Rattle.sha.specs.Hash.{Hash, chained, digest}
 use Rattle.sha.specs.Sha1.{compress1, sha1}
 use Rattle.sha.specs.Sha2.{compress, core256, sha256}
-use Rattle.sha.proofs.Blocks.{all-bytes-take, take-all-bytes, length-all-bytes}
+use Rattle.sha.proofs.Digests.{written}
 use Rattle.sha32.specs.declared.Function.{Function}
 use Rattle.sha32.specs.declared.Function.the-variants as function
 use Rattle.sha32.specs.Hash32.{hash32}
@@ -58,16 +58,5 @@ abbrev Written : Hash → Type 0
 Written f =
     (m v : List ℕ) → take (f .count) v ≡ chained f (f .start) (padded 4 m) → take (f .width) (allBytes 4 8 v) ≡ digest f m
 
-module _ (m v : List ℕ) where
-  written1 : take 5 v ≡ chained sha1 (sha1 .start) (padded 4 m) → take 20 (allBytes 4 8 v) ≡ digest sha1 m
-  unfolding digest
-  written1 e =
-      take-all-bytes 4 5 3 v ∙ sym (all-bytes-take 4 5 5 v (omega arith)) ∙ ap (allBytes 4 5) e
-      ∙ sym (take-all 20 (allBytes 4 5 _) (omega (arith, length-all-bytes 4 5 (chained sha1 (sha1 .start) (padded 4 m)))))
-
-  written2 : take 8 v ≡ chained sha256 (sha256 .start) (padded 4 m) → take 32 (allBytes 4 8 v) ≡ digest sha256 m
-  unfolding digest
-  written2 e = ap (take 32) (sym (all-bytes-take 4 8 8 v (omega arith)) ∙ ap (allBytes 4 8) e)
-
-pub written : (f : Function) → Written (hash32 f)
-written f = both Written written1 written2 f
+pub written-32 : (f : Function) → Written (hash32 f)
+written-32 f = both Written (λ m v. written sha1 m 8 v (omega arith) (omega arith)) (λ m v. written sha256 m 8 v (omega arith) (omega arith)) f

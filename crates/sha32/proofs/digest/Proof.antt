@@ -8,7 +8,7 @@ use Rattle.sha.specs.Hash.{chain, chained}
 use Rattle.sha.specs.Sha2.{k256}
 use Rattle.sha.proofs.Padding.{whole}
 use Rattle.sha32.specs.Hash32.{hash32}
-use Rattle.sha32.proofs.Both.{size32, written}
+use Rattle.sha32.proofs.Both.{size32, written-32}
 use borrow.Author.Needs.{needs}
 use Rattle.sha32.proofs.digest.Statement.{statement}
 use Rattle.sha32.proofs.digest.Tie as tie
@@ -49,7 +49,7 @@ returns c =
     rw (c .before .before .before .before .before .before .start .ensures) at (u .ensures) in
     let e : take (f .count) (c .before .finish .result) ≡ chained f (f .start) (padded 4 m) =
     whole f 4 (size32 (a .function)) (omega arith) (f .start) m _ _ s (c .before .finish .ensures) in
-    rw (c .write-value .ensures) (written (a .function) m (c .before .finish .result) e)
+    rw (c .write-value .ensures) (written-32 (a .function) m (c .before .finish .result) e)
 
 pub digest-spec : {M : Type 1} → statement M
 digest-spec =

@@ -1,5 +1,5 @@
--- The five sums are the definition's (`sums-five`). Assumes nothing.
-use Rattle.sha.proofs.Rounds1.{sums-five}
+-- Each word is a sum of two (`sums-of`). Assumes nothing.
+use Rattle.sha.proofs.Sums.{sums-of}
 use borrow.Author.Needs.{needs}
 use Rattle.sha32.proofs.sha1.add_words.Statement.{statement}
 use Rattle.sha32.proofs.sha1.add_words.Tie as tie
@@ -52,7 +52,7 @@ add-requires-5 c κs = search needs
 returns : tie.Need-returns
 returns c =
     let a = c .before .before .before .before .before .args in
-    sums-five 32 (a .t1) (a .t2) (c .before .before .before .before .add .ensures) (c .before .before .before .add2 .ensures) (c .before .before .add3 .ensures) (c .before .add4 .ensures) (c .add5 .ensures)
+    sums-of 32 (a .t1) (a .t2) _ (c .before .before .before .before .add .ensures, (c .before .before .before .add2 .ensures, (c .before .before .add3 .ensures, (c .before .add4 .ensures, (c .add5 .ensures, tt)))))
 
 pub add-words-spec : {M : Type 1} → statement M
 add-words-spec =
