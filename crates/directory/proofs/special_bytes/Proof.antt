@@ -16,7 +16,7 @@ slot-bytes-requires c κs = search needs
 returns : tie.Need-returns
 returns c = (
   c .slot-bytes .ensures .0
-  ∙ ap (λ (n : ℕ). slotWidth (now (c .before .before .before .args .d)) * n) (c .before .read .ensures .nSpecialSlots-is),
+      ∙ ap (λ (n : ℕ). slotWidth (now (c .before .before .before .args .d)) * n) (c .before .read .ensures .nSpecialSlots-is),
   c .slot-bytes .ensures .1,
 )
 
