@@ -2,7 +2,7 @@
 use Prim.Native.Nat.{ℕ, zero, suc, _+_, _*_, _/_, _%_, _^_, _<_, _≤_, zero-le}
 use mathlib.Core.List.{List, [], _∷_}
 use mathlib.Core.Path.{_≡_, refl, sym, ap, ap₂, _∙_}
-use native.Mathlib.Nat.{add-assoc, pow-zero, pow-suc, pow-le-pow-right, zero-add, mul-comm}
+use native.Mathlib.Nat.{add-zero, add-suc, add-assoc, pow-zero, pow-suc, pow-le-pow-right, zero-add, mul-comm}
 use native.Mathlib.Omega.{arith}
 use lib.ListN.{length, getD, take, drop, List·getD-eq-default}
 use lib.Seq.{getD-take, getD-drop}
@@ -21,6 +21,12 @@ pub big-part : (n m o k : ℕ) (s : List ℕ) → k + n ≤ m → big n (take m 
 big-part n m o k s h =
     big-same n (take m (drop o s)) s k (o + k)
     (λ i l. getD-take m (drop o s) (k + i) 0 (omega arith) ∙ getD-drop o s (k + i) 0 ∙ ap (λ (x : ℕ). getD s x 0) (sym (add-assoc o k i)))
+
+-- a number of m + n bytes: the m before, and the n behind them
+pub big-add : (m n : ℕ) (s : List ℕ) (at : ℕ) → big (m + n) s at ≡ big m s at * 256 ^ n + big n s (at + m)
+unfolding big
+big-add m zero s at = rw (add-zero m, pow-zero 256) (omega arith)
+big-add m (suc n) s at = rw (add-suc m n, big-add m n s at, pow-suc 256 n, add-assoc at m n) (omega arith)
 
 -- past the end every number is 0
 pub big-past : (n : ℕ) (s : List ℕ) (at : ℕ) → length s ≤ at → big n s at ≡ 0

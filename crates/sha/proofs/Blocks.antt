@@ -32,12 +32,6 @@ words-append z n l p j h = words-ext z n (l ++ p) l j j (λ i b. List·getD-appe
 pub words-drop : (z n d : ℕ) (l : List ℕ) (j : ℕ) → words z n (drop d l) j ≡ words z n l (d + j)
 words-drop z n d l j = words-ext z n (drop d l) l j (d + j) (λ i b. getD-drop d l (j + i) 0 ∙ ap (λ (x : ℕ). getD l x 0) (sym (add-assoc d j i)))
 
--- a number of m + n bytes: the m before, and the n behind them
-pub big-add : (m n : ℕ) (s : List ℕ) (at : ℕ) → big (m + n) s at ≡ big m s at * 256 ^ n + big n s (at + m)
-unfolding big
-big-add m zero s at = rw (add-zero m, pow-zero 256) (omega arith)
-big-add m (suc n) s at = rw (add-suc m n, big-add m n s at, pow-suc 256 n, add-assoc at m n) (omega arith)
-
 -- BLOCKS
 
 -- the first block, and the first two

@@ -1,6 +1,6 @@
 -- A word is its first four bytes, and the four behind them. Assumes nothing.
 use native.Mathlib.Omega.{arith}
-use Rattle.sha.proofs.Blocks.{big-add}
+use Rattle.endian.proofs.Numbers.{big-add}
 use borrow.Author.Needs.{needs}
 use Rattle.sha64.proofs.load.word_at.Statement.{statement}
 use Rattle.sha64.proofs.load.word_at.Tie as tie
