@@ -14,7 +14,7 @@ use Rattle.endian.proofs.Numbers.{take-small}
 use Rattle.sha.specs.Hash.{digest}
 use Rattle.sha.specs.Sha2.{sha256}
 use Rattle.sha.proofs.Digests.{digest-small, digest-length}
-use Rattle.digest.proofs.ByKind.{sha256-kind}
+use Rattle.digest.proofs.ByKind.{kinds-plainly}
 use Rattle.layout.specs.TrustCache.{cdhashLength}
 use Rattle.refusals.specs.declared.Answer.{Answer}
 use Rattle.refusals.specs.Refusals.{_≡?_, holds, Row, refuse, accepted, first, Passes}
@@ -157,7 +157,7 @@ demand2 =
             several-numbers = among-plainly;
             page-size = pageBytes-power;
             agrees-exactly = agrees-equal;
-            kind-taken = sha256-kind;
+            hash-kinds = kinds-plainly;
             code-slots = slot-is;
             hash-order = hash-less;
             entry-hash = entry-hash;

@@ -12,7 +12,7 @@ use Rattle.refusals.proofs.Positions.{lowest-below, none-fails}
 use Rattle.sha.specs.Hash.{digest}
 use Rattle.sha.specs.Sha2.{sha256}
 use Rattle.digest.specs.Kinds.{digestOf}
-use Rattle.digest.proofs.ByKind.{sha256-kind}
+use Rattle.digest.proofs.ByKind.{kinds-plainly}
 use Rattle.layout.specs.CodeDirectory.{sha256Type, hashType, slotWidth, nCodeSlots}
 use Rattle.geometry.specs.Pages.{pageCount, pageOf}
 use Rattle.marks.specs.Marks.{slotAt, marksOf, differs, badRows}
@@ -36,7 +36,7 @@ as-many d e = e
 module _ (d image : List ℕ) (taken : hashType d ≡ sha256Type) (slot-a-page : nCodeSlots d ≡ pages d) where
   -- its kind is SHA-256
   by-kind : (m : List ℕ) → digestOf (hashType d) m ≡ digest sha256 m
-  by-kind m = ap (λ (k : ℕ). digestOf k m) taken ∙ sha256-kind m
+  by-kind m = ap (λ (k : ℕ). digestOf k m) taken ∙ kinds-plainly .by-sha256 m
 
   abbrev marks : List ℕ
   marks = marksOf (P d) (codeLimit d) (slotsBy d) image

@@ -9,7 +9,7 @@ use lib.ListN.{length, getD}
 use Rattle.endian.specs.Numbers.{AllBytes}
 use Rattle.refusals.specs.declared.Answer.{Answer}
 use Rattle.refusals.specs.Refusals.{Decides, Passes, refuse, OverPlainly, AmongPlainly}
-use Rattle.digest.specs.Kinds.{Sha256Kind}
+use Rattle.digest.specs.Kinds.{KindsPlainly}
 use Rattle.layout.specs.CodeDirectory.{nCodeSlots}
 use Rattle.layout.specs.TrustCache.{cacheHead, entrySize, entryCount, hashAt}
 use Rattle.directory.specs.Rows.{codeSlot}
@@ -70,9 +70,9 @@ pub record Plainly : Type 0 where
   pub several-numbers : AmongPlainly
   -- P is 2 to the pageSize field
   pub page-size : PagePower
-  -- a page agrees with its slot exactly when the slot holds its digest, which is SHA-256 by the kind that is taken
+  -- a page agrees with its slot exactly when the slot holds its digest by the slots' kind, which is SHA-256's for the kind that 13 takes
   pub agrees-exactly : AgreesExactly
-  pub kind-taken : Sha256Kind
+  pub hash-kinds : KindsPlainly
   pub code-slots : CodeSlotsAre
   -- hashes are ordered by their bytes, the first byte first, and an entry's is the directory's where the bytes are
   pub hash-order : HashLess

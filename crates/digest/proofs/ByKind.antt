@@ -10,25 +10,25 @@ use lib.Seq.{take-take}
 use borrow.Author.Tests.{eqb-true, eqb-false}
 use Rattle.refusals.specs.Ranges.{lookup}
 use Rattle.refusals.proofs.Ranges.{misses}
-use Rattle.layout.specs.CodeDirectory.{slotWidths, widthOf}
-use Rattle.sha.specs.Hash.{Hash, digest}
+use Rattle.layout.specs.CodeDirectory.{sha1Type, sha256Type, truncatedType, sha384Type, slotWidths, widthOf}
+use Rattle.sha.specs.Hash.{Hash, cutTo, digest}
 use Rattle.sha.specs.Sha1.{sha1}
 use Rattle.sha.specs.Sha2.{sha256, sha384}
 use Rattle.sha.proofs.Digests.{digest-cut}
-use Rattle.digest.specs.Kinds.{sha256-20, none, hashOf, digestOf, Sha256Kind}
+use Rattle.digest.specs.Kinds.{none, hashOf, digestOf, KindsPlainly}
 
 -- by the number, which is known in each case
-pub by-number : (P : Hash → Type 0) (k : ℕ) → (k ≡ 1 → P sha1) → (k ≡ 2 → P sha256) → (k ≡ 3 → P sha256-20) → (k ≡ 4 → P sha384)
-    → ((k ≡ 1 → ⊥) → (k ≡ 2 → ⊥) → (k ≡ 3 → ⊥) → (k ≡ 4 → ⊥) → P none) → P (hashOf k)
+pub by-number : (P : Hash → Type 0) (k : ℕ) → (k ≡ sha1Type → P sha1) → (k ≡ sha256Type → P sha256) → (k ≡ truncatedType → P (cutTo 20 sha256)) → (k ≡ sha384Type → P sha384)
+    → ((k ≡ sha1Type → ⊥) → (k ≡ sha256Type → ⊥) → (k ≡ truncatedType → ⊥) → (k ≡ sha384Type → ⊥) → P none) → P (hashOf k)
 unfolding hashOf
-by-number P k a b c d e = split (eqb k 1) (eqb k 2) (eqb k 3) (eqb k 4) refl refl refl refl
+by-number P k a b c d e = split (eqb k sha1Type) (eqb k sha256Type) (eqb k truncatedType) (eqb k sha384Type) refl refl refl refl
   where
-    split : (p q r s : Bool) → eqb k 1 ≡ p → eqb k 2 ≡ q → eqb k 3 ≡ r → eqb k 4 ≡ s → P (cond p sha1 (cond q sha256 (cond r sha256-20 (cond s sha384 none))))
-    split true q r s ep eq er es = a (eqb-true k 1 ep)
-    split false true r s ep eq er es = b (eqb-true k 2 eq)
-    split false false true s ep eq er es = c (eqb-true k 3 er)
-    split false false false true ep eq er es = d (eqb-true k 4 es)
-    split false false false false ep eq er es = e (eqb-false k 1 ep) (eqb-false k 2 eq) (eqb-false k 3 er) (eqb-false k 4 es)
+    split : (p q r s : Bool) → eqb k sha1Type ≡ p → eqb k sha256Type ≡ q → eqb k truncatedType ≡ r → eqb k sha384Type ≡ s → P (cond p sha1 (cond q sha256 (cond r (cutTo 20 sha256) (cond s sha384 none))))
+    split true q r s ep eq er es = a (eqb-true k sha1Type ep)
+    split false true r s ep eq er es = b (eqb-true k sha256Type eq)
+    split false false true s ep eq er es = c (eqb-true k truncatedType er)
+    split false false false true ep eq er es = d (eqb-true k sha384Type es)
+    split false false false false ep eq er es = e (eqb-false k sha1Type ep) (eqb-false k sha256Type eq) (eqb-false k truncatedType er) (eqb-false k sha384Type es)
 
 -- a digest has as many bytes as a slot
 pub width-is : (k : ℕ) → hashOf k .width ≡ widthOf k
@@ -54,7 +54,7 @@ module _ (k : ℕ) (m : List ℕ) where
       ∙ rw h
 
   -- words of 8 bytes
-  pub of-sha384 : k ≡ 4 → {r : List ℕ} → r ≡ digest sha384 m → r ≡ digestOf k m ++ replicate (48 - widthOf k) 0
+  pub of-sha384 : k ≡ sha384Type → {r : List ℕ} → r ≡ digest sha384 m → r ≡ digestOf k m ++ replicate (48 - widthOf k) 0
   unfolding digestOf hashOf widthOf slotWidths lookup
   of-sha384 h e = rw h (e ∙ sym (append-nil (digest sha384 m)))
 
@@ -63,11 +63,11 @@ module _ (k : ℕ) (m : List ℕ) where
     kept : take (widthOf k) d ≡ digestOf k m → r ≡ digestOf k m ++ replicate (48 - widthOf k) 0
     kept e = er ∙ rw (ew, e)
 
-    pub of-sha1 : k ≡ 1 → take 20 d ≡ digest sha1 m → r ≡ digestOf k m ++ replicate (48 - widthOf k) 0
+    pub of-sha1 : k ≡ sha1Type → take 20 d ≡ digest sha1 m → r ≡ digestOf k m ++ replicate (48 - widthOf k) 0
     unfolding digestOf hashOf widthOf slotWidths lookup
     of-sha1 h e = kept (rw h e)
 
-    pub of-sha256 : (k ≡ 1 → ⊥) → (k ≡ 4 → ⊥) → take 32 d ≡ digest sha256 m → r ≡ digestOf k m ++ replicate (48 - widthOf k) 0
+    pub of-sha256 : (k ≡ sha1Type → ⊥) → (k ≡ sha384Type → ⊥) → take 32 d ≡ digest sha256 m → r ≡ digestOf k m ++ replicate (48 - widthOf k) 0
     unfolding digestOf
     of-sha256 h₁ h₄ e =
         kept (rw (← width-is k)
@@ -76,11 +76,27 @@ module _ (k : ℕ) (m : List ℕ) where
         (λ a b c d. no-bytes m)))
 
 -- words of 4 bytes have at most 32
-pub width-32 : (k : ℕ) → (k ≡ 4 → ⊥) → widthOf k ≤ 32
-width-32 k h =
+pub narrow-width : (k : ℕ) → (k ≡ sha384Type → ⊥) → widthOf k ≤ 32
+narrow-width k h =
     rw (← width-is k)
     (by-number (λ f. f .width ≤ 32) k (λ e. omega arith) (λ e. omega arith) (λ e. omega arith) (λ e. absurd (h e)) (λ a b c d. omega arith))
 
-pub sha256-kind : Sha256Kind
+-- EACH KIND
+
+not-known : (k : ℕ) → widthOf k ≡ 0 → (m : List ℕ) → digestOf k m ≡ []
+unfolding digestOf
+not-known k h m =
+    by-number (λ f. f .width ≡ 0 → digest f m ≡ []) k
+    (λ i e. absurd (omega arith)) (λ i e. absurd (omega arith)) (λ i e. absurd (omega arith)) (λ i e. absurd (omega arith))
+    (λ a b c d e. sym (no-bytes m)) (width-is k ∙ h)
+
+pub kinds-plainly : KindsPlainly
 unfolding digestOf hashOf
-sha256-kind m = refl
+kinds-plainly =
+    record {
+      by-sha1 = λ m. refl;
+      by-sha256 = λ m. refl;
+      by-truncated = λ m. digest-cut sha256 20 (omega arith) m;
+      by-sha384 = λ m. refl;
+      unknown = not-known;
+    }

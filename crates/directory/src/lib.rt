@@ -116,11 +116,10 @@ fn fields_tested(d: &[u8]) -> Answer
     let flags = head.flags;
     let limit64 = limit64_of(d);
     let scatter = scatter_of(d);
-    let width = slot_width(d);
     if head.hash_type != CodeDirectory::SHA256 {
         return answer(13, 0);
     }
-    if head.hash_size != width {
+    if head.hash_size != slot_width(d) {
         return answer(13, 0);
     }
     match shift {
@@ -214,7 +213,7 @@ fn slot_width(d: &[u8]) -> usize
     CodeDirectory::slot_width(CodeDirectory::read(d).hash_type)
 }
 
-// Bytes of n slots, below 2^32 times the widest, 48. Every place of a slot goes by this product.
+// Bytes of n slots, below 2^32 times the widest, 48. Where a slot lies in the directory goes by this product.
 fn slot_bytes(d: &[u8], n: usize) -> usize
     requires { ⌜ n < 4294967296 ⌝ }
     ensures { λ r. ⌜ (r ≡ slotWidth (now (d .entry)) * n) × (r < 206158430208) ⌝ }

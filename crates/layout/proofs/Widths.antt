@@ -6,9 +6,9 @@ use native.Mathlib.Omega.{arith}
 use Rattle.refusals.proofs.Ranges.{hits, lookup-most}
 use Rattle.layout.specs.CodeDirectory.{sha256Type, slotWidths, widthOf}
 
-pub width-256 : (kind : ℕ) → kind ≡ sha256Type → widthOf kind ≡ 32
+pub width-sha256 : (kind : ℕ) → kind ≡ sha256Type → widthOf kind ≡ 32
 unfolding widthOf slotWidths
-width-256 kind e = sym (hits 1 slotWidths 0 kind (omega arith))
+width-sha256 kind e = sym (hits 1 slotWidths 0 kind (omega arith))
 
 pub width-most : (kind : ℕ) → widthOf kind ≤ 48
 unfolding widthOf slotWidths

@@ -85,7 +85,7 @@ impl CodeDirectory {
         }
     }
 
-    // Bytes of n slots. A product of two variables is one unknown to the prover's arithmetic, so it is taken here alone.
+    // Bytes of n slots. The product of a width and a count is one unknown to the prover's arithmetic, so it is taken here alone.
     pub fn slot_bytes(kind: usize, n: usize) -> usize
         requires { ⌜ widthOf kind * n < 2 ^ 64 ⌝ }
         ensures { λ r. ⌜ r ≡ widthOf kind * n ⌝ }

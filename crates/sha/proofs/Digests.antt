@@ -9,7 +9,7 @@ use lib.Seq.{length-take-le, take-take}
 use Rattle.endian.specs.Numbers.{bytes}
 use Rattle.endian.proofs.Numbers.{take-small}
 use Rattle.sha.specs.Message.{words, padded, allBytes}
-use Rattle.sha.specs.Hash.{Hash, chain, chained, digest}
+use Rattle.sha.specs.Hash.{Hash, cutTo, chain, chained, digest}
 use Rattle.sha.proofs.Blocks.{length-all-bytes, all-bytes-take, all-bytes-front}
 
 bytes-small : (n x k : ℕ) → getD (bytes n x) k 0 < 256
@@ -50,10 +50,6 @@ module _ (f : Hash) (m : List ℕ) where
       ∙ ap (λ (k : ℕ). take (f .width) (allBytes (f .size) k v)) (add-comm n (f .count))
       ∙ all-bytes-front (f .size) (f .count) n (f .width) v hc
       ∙ ap (take (f .width)) (sym (all-bytes-take (f .size) (f .count) (f .count) v (omega arith)) ∙ ap (allBytes (f .size) (f .count)) e)
-
--- a function whose digest is the first n bytes of another's
-abbrev pub cutTo : ℕ → Hash → Hash
-cutTo n f = record { size = f .size; block = f .block; start = f .start; count = f .count; width = n }
 
 chain-same : (f : Hash) (n : ℕ) (h m : List ℕ) (i : ℕ) → chain (cutTo n f) h m i ≡ chain f h m i
 unfolding chain

@@ -143,18 +143,18 @@ padded-tail z rest n j h = append-assoc rest (128 ∷ replicate j 0) (bytes (2 *
 -- THE HASH VALUE OF A MESSAGE, by the code's steps. Each statement is over z, the bytes of a word: where the code does not know the function
 -- (`f`) but knows z, `f .size ≡ z` is all that is asked.
 
--- rest and the padding, in one block: t starts with it
+-- rest and the padding, in one block: t starts with it, up to `end`
 abbrev pub OneBlock : Hash → ℕ → Type 0
 OneBlock f z =
-    (h rest t v : List ℕ) (n : ℕ) → length rest ≡ n % (16 * z) → length rest + 1 + 2 * z ≤ 16 * z
-    → take (16 * z) t ≡ rest ++ (128 ∷ replicate (16 * z - (1 + 2 * z) - length rest) 0) ++ bytes (2 * z) (8 * n)
+    (h rest t v : List ℕ) (n end : ℕ) → length rest ≡ n % (16 * z) → length rest + 1 + 2 * z ≤ 16 * z
+    → take end t ≡ rest ++ (128 ∷ replicate (end - (1 + 2 * z) - length rest) 0) ++ bytes (2 * z) (8 * n) → end ≡ 16 * z
     → v ≡ f .block h (words z 16 t 0) → v ≡ chained f h (rest ++ padding z n)
 
 -- .. and in two
 abbrev pub TwoBlocks : Hash → ℕ → Type 0
 TwoBlocks f z =
-    (h rest t u v : List ℕ) (n : ℕ) → length rest ≡ n % (16 * z) → length rest < 16 * z → 16 * z < length rest + 1 + 2 * z
-    → take (32 * z) t ≡ rest ++ (128 ∷ replicate (32 * z - (1 + 2 * z) - length rest) 0) ++ bytes (2 * z) (8 * n)
+    (h rest t u v : List ℕ) (n end : ℕ) → length rest ≡ n % (16 * z) → length rest < 16 * z → 16 * z < length rest + 1 + 2 * z
+    → take end t ≡ rest ++ (128 ∷ replicate (end - (1 + 2 * z) - length rest) 0) ++ bytes (2 * z) (8 * n) → end ≡ 32 * z
     → u ≡ f .block h (words z 16 t 0) → v ≡ f .block u (words z 16 t (16 * z)) → v ≡ chained f h (rest ++ padding z n)
 
 -- whole blocks, then what is left with the padding
@@ -166,20 +166,20 @@ Whole f z =
 
 module _ (f : Hash) (pos : 0 < f .size) where
   one-at : OneBlock f (f .size)
-  one-at h rest t v n el le et ev =
+  one-at h rest t v n end el le et ee ev =
       let z = f .size in
       let j : 16 * z - (1 + 2 * z) - length rest ≡ (30 * z - 1 - n % (16 * z)) % (16 * z) =
       sym (zeros-one z (length rest) le) ∙ ap (λ (x : ℕ). (30 * z - 1 - x) % (16 * z)) el in
       let l : length (rest ++ padding z n) ≡ 16 * z = length-append rest (padding z n) ∙ omega (arith, length-padding-of z n) in
-      ev ∙ sym (chained-1 f h (rest ++ padding z n) t pos (et ∙ padded-tail z rest n (16 * z - (1 + 2 * z) - length rest) j) l)
+      ev ∙ sym (chained-1 f h (rest ++ padding z n) t pos ((rw ee at et) ∙ padded-tail z rest n (16 * z - (1 + 2 * z) - length rest) j) l)
 
   two-at : TwoBlocks f (f .size)
-  two-at h rest t u v n el lt gt et eu ev =
+  two-at h rest t u v n end el lt gt et ee eu ev =
       let z = f .size in
       let j : 32 * z - (1 + 2 * z) - length rest ≡ (30 * z - 1 - n % (16 * z)) % (16 * z) =
       sym (zeros-two z (length rest) gt lt) ∙ ap (λ (x : ℕ). (30 * z - 1 - x) % (16 * z)) el in
       let l : length (rest ++ padding z n) ≡ 32 * z = length-append rest (padding z n) ∙ omega (arith, length-padding-of z n) in
-      ev ∙ rw eu (sym (chained-2 f h (rest ++ padding z n) t pos (et ∙ padded-tail z rest n (32 * z - (1 + 2 * z) - length rest) j) l))
+      ev ∙ rw eu (sym (chained-2 f h (rest ++ padding z n) t pos ((rw ee at et) ∙ padded-tail z rest n (32 * z - (1 + 2 * z) - length rest) j) l))
 
   whole-at : Whole f (f .size)
   unfolding padded

@@ -25,7 +25,7 @@ pub enum Function {
 }
 
 // The initial hash value of SHA-1, FIPS 180-4, section 5.3.1, and three words that it does not use.
-pub const H1: [u32; 8] = [
+const H1: [u32; 8] = [
     0x67452301,
     0xefcdab89,
     0x98badcfe,
@@ -49,7 +49,7 @@ pub const H256: [u32; 8] = [
 ];
 
 // The initial hash value.
-pub fn start(function: Function) -> [u32; 8]
+fn start(function: Function) -> [u32; 8]
     ensures { λ r. ⌜ take (hash32 function .count) r ≡ hash32 function .start ⌝ }
 {
     match function {
@@ -89,19 +89,19 @@ pub fn absorb(function: Function, h: [u32; 8], part: &[u8], k: &[u32; 64]) -> [u
     v
 }
 
-// The hash value of a message of n bytes: h is the one after its whole blocks, and rest the bytes behind them.
+// The hash value of a message of n bytes: h is the one after its whole blocks, and rest the bytes behind them. With the padding they
+// are one block, or two where the bit 1 and the length do not fit behind them; one buffer serves both.
 pub fn finish(function: Function, h: [u32; 8], rest: &[u8], n: usize, k: &[u32; 64]) -> [u32; 8]
     requires { ⌜ (length (now rest) ≡ n % 64) × (now k ≡ k256) ⌝ }
     ensures { λ r. ⌜ take (hash32 function .count) r ≡ chained (hash32 function) (take (hash32 function .count) h) (now (rest .entry) ++ padding 4 n) ⌝ }
 {
-    if rest.len() < 56 {
-        let t = sha::close_tail(rest, n, 64, 4);
-        compress_block(function, h, &t, 0, k)
-    } else {
-        let t = sha::close_tail(rest, n, 128, 4);
-        let g = compress_block(function, h, &t, 0, k);
-        compress_block(function, g, &t, 64, k)
+    let end = 64 * ((rest.len() + 8) / 64 + 1);
+    let t = sha::close_tail(rest, n, end, 4);
+    let v = compress_block(function, h, &t, 0, k);
+    if end == 64 {
+        return v;
     }
+    compress_block(function, v, &t, 64, k)
 }
 
 // The bytes of a hash value.

@@ -6,7 +6,7 @@ mod block;
 mod load;
 mod word;
 
-pub use block::K512;
+use block::K512;
 use block::compress_block;
 ghost use mathlib.Core.Path.{_≡_};
 ghost use mathlib.Core.List.{_++_};
@@ -17,7 +17,7 @@ ghost use Rattle.sha.specs.Hash.{chain, chained, digest};
 ghost use Rattle.sha.specs.Sha2.{k512, h384, sha384};
 
 // The initial hash value, FIPS 180-4, section 5.3.4.
-pub const H384: [u64; 8] = [
+const H384: [u64; 8] = [
     0xcbbb9d5dc1059ed8,
     0x629a292a367cd507,
     0x9159015a3070dd17,
@@ -28,7 +28,7 @@ pub const H384: [u64; 8] = [
     0x47b5481dbefa4fa4,
 ];
 
-// The initial hash value, by value.
+// The initial hash value, under a contract of its own: a proof that meets the constant itself would compare its words one by one.
 fn start() -> [u64; 8]
     ensures { λ r. ⌜ r ≡ h384 ⌝ }
 {
@@ -36,7 +36,7 @@ fn start() -> [u64; 8]
 }
 
 // The hash value after the whole blocks of a part; the bytes behind them are not read.
-pub fn absorb(h: [u64; 8], part: &[u8], k: &[u64; 80]) -> [u64; 8]
+fn absorb(h: [u64; 8], part: &[u8], k: &[u64; 80]) -> [u64; 8]
     requires { ⌜ now k ≡ k512 ⌝ }
     ensures { λ r. ⌜ r ≡ chain sha384 h (now (part .entry)) (length (now (part .entry)) / 128) ⌝ }
 {
@@ -51,23 +51,23 @@ pub fn absorb(h: [u64; 8], part: &[u8], k: &[u64; 80]) -> [u64; 8]
     v
 }
 
-// The hash value of a message of n bytes: h is the one after its whole blocks, and rest the bytes behind them.
-pub fn finish(h: [u64; 8], rest: &[u8], n: usize, k: &[u64; 80]) -> [u64; 8]
+// The hash value of a message of n bytes: h is the one after its whole blocks, and rest the bytes behind them. With the padding they
+// are one block, or two where the bit 1 and the length do not fit behind them; one buffer serves both.
+fn finish(h: [u64; 8], rest: &[u8], n: usize, k: &[u64; 80]) -> [u64; 8]
     requires { ⌜ (length (now rest) ≡ n % 128) × (now k ≡ k512) ⌝ }
     ensures { λ r. ⌜ r ≡ chained sha384 h (now (rest .entry) ++ padding 8 n) ⌝ }
 {
-    if rest.len() < 112 {
-        let t = sha::close_tail(rest, n, 128, 8);
-        compress_block(h, &t, 0, k)
-    } else {
-        let t = sha::close_tail(rest, n, 256, 8);
-        let g = compress_block(h, &t, 0, k);
-        compress_block(g, &t, 128, k)
+    let end = 128 * ((rest.len() + 16) / 128 + 1);
+    let t = sha::close_tail(rest, n, end, 8);
+    let v = compress_block(h, &t, 0, k);
+    if end == 128 {
+        return v;
     }
+    compress_block(v, &t, 128, k)
 }
 
 // The bytes of a hash value's first six words, which are SHA-384's.
-pub fn write_value(h: [u64; 8]) -> [u8; 48]
+fn write_value(h: [u64; 8]) -> [u8; 48]
     ensures { λ r. ⌜ r ≡ allBytes 8 6 h ⌝ }
 {
     let mut out = [0u8; 48];

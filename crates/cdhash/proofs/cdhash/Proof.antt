@@ -7,9 +7,9 @@ use lib.ListN.{take}
 use lib.Seq.{take-append-le}
 use Rattle.layout.specs.CodeDirectory.{sha256Type}
 use Rattle.layout.specs.TrustCache.{cdhashLength}
-use Rattle.layout.proofs.Widths.{width-256}
+use Rattle.layout.proofs.Widths.{width-sha256}
 use Rattle.digest.specs.Kinds.{digestOf}
-use Rattle.digest.proofs.ByKind.{sha256-kind}
+use Rattle.digest.proofs.ByKind.{kinds-plainly}
 use Rattle.digest.proofs.Digests.{digest-length}
 use Rattle.cdhash.specs.Hash.{cdhash}
 use borrow.Author.Needs.{needs}
@@ -19,8 +19,8 @@ use Rattle.cdhash.proofs.cdhash.Tie as tie
 cut-digest : (d zeros : List ℕ) → take cdhashLength (digestOf sha256Type d ++ zeros) ≡ cdhash d
 unfolding cdhash
 cut-digest d zeros =
-    take-append-le cdhashLength (digestOf sha256Type d) zeros (omega (arith, digest-length sha256Type d, width-256 sha256Type refl))
-    ∙ ap (take cdhashLength) (sha256-kind d)
+    take-append-le cdhashLength (digestOf sha256Type d) zeros (omega (arith, digest-length sha256Type d, width-sha256 sha256Type refl))
+    ∙ ap (take cdhashLength) (kinds-plainly .by-sha256 d)
 
 digest-requires : tie.Need-digest-requires
 digest-requires c κs = search needs

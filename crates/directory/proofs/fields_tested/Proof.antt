@@ -60,17 +60,17 @@ limit64-of-requires c κs = search needs
 scatter-of-requires : tie.Need-scatter-of-requires
 scatter-of-requires c κs = search needs
 
-slot-width-requires : tie.Need-slot-width-requires
-slot-width-requires c κs = search needs
-
 answer-requires-4 : tie.Need-answer-requires-4
 answer-requires-4 c κs = search needs
 
 returns-4 : tie.Need-returns-4
 unfolding fieldRows
 returns-4 c =
-    let known = version-known _ _ (c .before .before .before .before .before .before .before .before .before .head-of .ensures .0) (c .before .before .before .before .before .before .before .before .if2 .left) in
+    let known = version-known _ _ (c .before .before .before .before .before .before .before .before .head-of .ensures .0) (c .before .before .before .before .before .before .before .if2 .left) in
     c .answer4 .ensures ∙ decides _ accepted _ _ (omega arith)
+
+slot-width-requires : tie.Need-slot-width-requires
+slot-width-requires c κs = search needs
 
 answer-requires-5 : tie.Need-answer-requires-5
 answer-requires-5 c κs = search needs
@@ -145,9 +145,9 @@ fields-tested-spec =
     read-requires
     limit64-of-requires
     scatter-of-requires
-    slot-width-requires
     answer-requires-4
     returns-4
+    slot-width-requires
     answer-requires-5
     returns-5
     answer-requires-6

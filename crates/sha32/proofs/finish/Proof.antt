@@ -7,6 +7,15 @@ use borrow.Author.Needs.{needs}
 use Rattle.sha32.proofs.finish.Statement.{statement}
 use Rattle.sha32.proofs.finish.Tie as tie
 
+add-end : tie.Need-add-end
+add-end c = search needs
+
+add-end-2 : tie.Need-add-end-2
+add-end-2 c = search needs
+
+mul-end : tie.Need-mul-end
+mul-end c = search needs
+
 close-tail-requires : tie.Need-close-tail-requires
 close-tail-requires c κs = search needs
 
@@ -16,8 +25,12 @@ slice-aggregate-compress-block c = search needs
 compress-block-requires : tie.Need-compress-block-requires
 compress-block-requires c κs = search needs
 
-close-tail-requires-2 : tie.Need-close-tail-requires-2
-close-tail-requires-2 c κs = search needs
+returns : tie.Need-returns
+returns c =
+    let a = c .before .before .before .before .before .args in
+    let t = c .before .before .before .close-tail in
+    one-block (hash32 (a .function)) 4 (size32 (a .function)) (omega arith) _ (a .rest .now) (t .result) _ (a .n) _
+    (omega arith) (omega arith) (t .ensures) (omega arith) (c .before .compress-block .ensures)
 
 slice-aggregate-compress-block-2 : tie.Need-slice-aggregate-compress-block-2
 slice-aggregate-compress-block-2 c = search needs
@@ -25,37 +38,24 @@ slice-aggregate-compress-block-2 c = search needs
 compress-block-requires-2 : tie.Need-compress-block-requires-2
 compress-block-requires-2 c κs = search needs
 
-slice-aggregate-compress-block-3 : tie.Need-slice-aggregate-compress-block-3
-slice-aggregate-compress-block-3 c = search needs
-
-compress-block-requires-3 : tie.Need-compress-block-requires-3
-compress-block-requires-3 c κs = search needs
-
-returns : tie.Need-returns
-returns c =
-    let a = c .before .before .before .before .before .args in
-    let t = c .before .before .close-tail in
-    one-block (hash32 (a .function)) 4 (size32 (a .function)) (omega arith) _ (a .rest .now) (t .result) _ (a .n)
-    (omega arith) (omega arith) (t .ensures) (c .compress-block .ensures)
-
 returns-2 : tie.Need-returns-2
 returns-2 c =
     let a = c .before .before .before .before .before .before .before .args in
-    let t = c .before .before .before .before .close-tail2 in
-    two-blocks (hash32 (a .function)) 4 (size32 (a .function)) (omega arith) _ (a .rest .now) (t .result) _ _ (a .n)
-    (omega arith) (omega arith) (omega arith) (t .ensures) (c .before .before .compress-block2 .ensures) (c .compress-block3 .ensures)
+    let t = c .before .before .before .before .before .close-tail in
+    two-blocks (hash32 (a .function)) 4 (size32 (a .function)) (omega arith) _ (a .rest .now) (t .result) _ _ (a .n) _
+    (omega arith) (omega arith) (omega arith) (t .ensures) (omega arith) (c .before .before .before .compress-block .ensures) (c .compress-block2 .ensures)
 
 pub finish-spec : {M : Type 1} → statement M
 finish-spec =
     tie.close
     (tie.spec
+    add-end
+    add-end-2
+    mul-end
     close-tail-requires
     slice-aggregate-compress-block
     compress-block-requires
-    close-tail-requires-2
+    returns
     slice-aggregate-compress-block-2
     compress-block-requires-2
-    slice-aggregate-compress-block-3
-    compress-block-requires-3
-    returns
     returns-2)

@@ -1,5 +1,5 @@
 -- The five ways of slot and thing are the five lines of `faultOf`. Assumes nothing.
-use Rattle.digest.proofs.ByKind.{sha256-kind}
+use Rattle.digest.proofs.ByKind.{kinds-plainly}
 use Rattle.slots.proofs.Laws.{fault-empty, fault-none, fault-missing, fault-agrees, fault-differs}
 use borrow.Author.Needs.{needs}
 use Rattle.slots.proofs.fault_of.Statement.{statement}
@@ -19,12 +19,12 @@ agrees-requires c κs = search needs
 
 returns-3 : tie.Need-returns-3
 returns-3 c =
-    let k = sha256-kind (c .before .before .before .before .before .before .before .args .thing .now) in
+    let k = kinds-plainly .by-sha256 (c .before .before .before .before .before .before .before .args .thing .now) in
     fault-agrees _ _ _ (cc) (cc) (cc)
 
 returns-4 : tie.Need-returns-4
 returns-4 c =
-    let k = sha256-kind (c .before .before .before .before .before .before .before .args .thing .now) in
+    let k = kinds-plainly .by-sha256 (c .before .before .before .before .before .before .before .args .thing .now) in
     fault-differs _ _ _ (cc) (cc) (cc)
 
 returns-5 : tie.Need-returns-5
