@@ -108,11 +108,11 @@ unfolding metEnd
 range-end p start size h =
     sym (pick-no (size ≡? 0) 0 ((start + (size - 1)) / p + 1) ((start + (size - 1)) / p + 1) (omega arith) refl)
 
-pub empty-first : (p start : ℕ) → metFirst p start 0 ≡ 0
+empty-first : (p start : ℕ) → metFirst p start 0 ≡ 0
 unfolding metFirst
 empty-first p start = sym (pick-yes (0 ≡? 0) 0 (start / p) 0 refl refl)
 
-pub empty-end : (p start : ℕ) → metEnd p start 0 ≡ 0
+empty-end : (p start : ℕ) → metEnd p start 0 ≡ 0
 unfolding metEnd
 empty-end p start = sym (pick-yes (0 ≡? 0) 0 ((start + (0 - 1)) / p + 1) 0 refl refl)
 
@@ -146,10 +146,10 @@ met-le (suc p) start (suc n) =
     omega arith)
 
 -- a range that is not empty meets a page: the last page met starts in the range or before it
-pub end-pos : (p start size : ℕ) → 0 < size → 0 < metEnd p start size
+end-pos : (p start size : ℕ) → 0 < size → 0 < metEnd p start size
 end-pos p start size h = rw (range-end p start size h) (omega arith)
 
-pub last-below : (p start size : ℕ) → 0 < size → p * (metEnd p start size - 1) < start + size
+last-below : (p start size : ℕ) → 0 < size → p * (metEnd p start size - 1) < start + size
 last-below p start size h =
     let e : metEnd p start size - 1 ≡ (start + (size - 1)) / p = omega (arith, range-end p start size h) in
     rw e (omega (arith, mul-div-le (start + (size - 1)) p))

@@ -11,7 +11,7 @@ use Rattle.geometry.specs.Pages.{part, splice}
 -- PARTS
 
 -- the same, the end first
-pub part-slice : (l : List ℕ) (a e : ℕ) → part l a e ≡ drop a (take e l)
+part-slice : (l : List ℕ) (a e : ℕ) → part l a e ≡ drop a (take e l)
 part-slice l zero e = rw sub-zero
 part-slice [] (suc a) zero = rw zero-sub
 part-slice [] (suc a) (suc e) = rw take-nil
@@ -19,11 +19,11 @@ part-slice (x ∷ l) (suc a) zero = rw zero-sub
 part-slice (x ∷ l) (suc a) (suc e) = rw suc-sub-suc (part-slice l a e)
 
 -- a part before the end of the first of two lists
-pub part-left : (x y : List ℕ) (a e : ℕ) → e ≤ length x → part (x ++ y) a e ≡ part x a e
+part-left : (x y : List ℕ) (a e : ℕ) → e ≤ length x → part (x ++ y) a e ≡ part x a e
 part-left x y a e h = part-slice (x ++ y) a e ∙ ap (drop a) (take-append-le e x y h) ∙ sym (part-slice x a e)
 
 -- a part of the second of two lists
-pub part-right : (x y : List ℕ) (a e : ℕ) → length x ≤ a → part (x ++ y) a e ≡ part y (a - length x) (e - length x)
+part-right : (x y : List ℕ) (a e : ℕ) → length x ≤ a → part (x ++ y) a e ≡ part y (a - length x) (e - length x)
 part-right x y a e h =
     let q : length x + (a - length x) ≡ a = add-sub-of-le h in
     let r : e - length x - (a - length x) ≡ e - a = omega arith in

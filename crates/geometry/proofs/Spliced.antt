@@ -18,13 +18,13 @@ use Rattle.geometry.proofs.Parts.{part-at, part-part, splice-none, spli
 module _ (p limit : ℕ) (image : List ℕ) (start size : ℕ) (bytes : List ℕ)
     (long : limit ≤ length image) (below : start + size ≤ limit) (exact : length bytes ≡ wanted p limit start size) where
   -- they end where the last page met ends, and so lie within the image
-  pub lent-end : p * metFirst p start size + length bytes ≡ metStop p limit start size
+  lent-end : p * metFirst p start size + length bytes ≡ metStop p limit start size
   lent-end = omega (arith, begin-stop p limit start size below)
 
-  pub lent-below : p * metFirst p start size + length bytes ≤ limit
+  lent-below : p * metFirst p start size + length bytes ≤ limit
   lent-below = omega (arith, lent-end, min-le-right (p * metEnd p start size) limit)
 
-  pub lent-within : p * metFirst p start size + length bytes ≤ length image
+  lent-within : p * metFirst p start size + length bytes ≤ length image
   lent-within = omega (arith, lent-below)
 
   pub spliced-length : length (splice image (p * metFirst p start size) bytes) ≡ length image
@@ -89,7 +89,7 @@ change-page p limit image at bytes i f long h m = by-length (length bytes) refl
 -- IMAGES BY THEIR PAGES
 
 -- a byte below the limit lies in a page
-pub byte-page : (p limit : ℕ) (l : List ℕ) (k : ℕ) → Fit p limit → k < limit
+byte-page : (p limit : ℕ) (l : List ℕ) (k : ℕ) → Fit p limit → k < limit
     → (k / p < pageCount p limit) × (getD l k 0 ≡ getD (pageOf p limit (k / p) l) (k - p * (k / p)) 0)
 byte-page p limit l k f h =
     let low : p * (k / p) ≤ k = mul-div-le k p in

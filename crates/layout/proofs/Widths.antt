@@ -10,7 +10,7 @@ pub width-sha256 : (kind : ℕ) → kind ≡ sha256Type → widthOf kind ≡ 32
 unfolding widthOf slotWidths
 width-sha256 kind e = sym (hits 1 slotWidths 0 kind (omega arith))
 
-pub width-most : (kind : ℕ) → widthOf kind ≤ 48
+width-most : (kind : ℕ) → widthOf kind ≤ 48
 unfolding widthOf slotWidths
 width-most kind = lookup-most 48 slotWidths 0 kind (omega arith) (omega arith)
 

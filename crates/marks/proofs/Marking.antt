@@ -31,10 +31,10 @@ mark-of : (slots : Slots) (i : ℕ) (bytes : List ℕ) (b : Bool) → b ≡ agre
 unfolding markOf
 mark-of slots i bytes b e = ap (λ (t : Bool). cond {A = ℕ} t 0 1) e
 
-pub mark-zero : (slots : Slots) (i : ℕ) (bytes : List ℕ) → true ≡ agrees slots i bytes → 0 ≡ markOf slots i bytes
+mark-zero : (slots : Slots) (i : ℕ) (bytes : List ℕ) → true ≡ agrees slots i bytes → 0 ≡ markOf slots i bytes
 mark-zero slots i bytes e = mark-of slots i bytes true e
 
-pub mark-one : (slots : Slots) (i : ℕ) (bytes : List ℕ) → false ≡ agrees slots i bytes → 1 ≡ markOf slots i bytes
+mark-one : (slots : Slots) (i : ℕ) (bytes : List ℕ) → false ≡ agrees slots i bytes → 1 ≡ markOf slots i bytes
 mark-one slots i bytes e = mark-of slots i bytes false e
 
 -- as the code finds it, from the slot that is cut out of the slots at `at`, w bytes long
@@ -87,7 +87,7 @@ marks-at p limit slots image i h =
     ∙ ap (λ (k : ℕ). markOf slots k (pageOf p limit k image)) (zero-add i)
 
 -- each is 0 or 1, so that test 34 passes
-pub marks-small : (p limit : ℕ) (slots : Slots) (image : List ℕ) (i : ℕ) → i < pageCount p limit → getD (marksOf p limit slots image) i 0 ≤ 1
+marks-small : (p limit : ℕ) (slots : Slots) (image : List ℕ) (i : ℕ) → i < pageCount p limit → getD (marksOf p limit slots image) i 0 ≤ 1
 marks-small p limit slots image i h =
     omega (arith, marks-at p limit slots image i h, mark-small slots i (pageOf p limit i image))
 
@@ -162,7 +162,7 @@ whole-here p limit slots image n e h u =
     }
 
 -- the pages met, as the code cuts them out of the marks
-pub cut-length : (first end : ℕ) (marks : List ℕ) → first ≤ end → end ≤ length marks → length (take (end - first) (drop first marks)) ≡ end - first
+cut-length : (first end : ℕ) (marks : List ℕ) → first ≤ end → end ≤ length marks → length (take (end - first) (drop first marks)) ≡ end - first
 cut-length first end marks h u = length-take-le (end - first) (drop first marks) (omega (arith, length-drop first marks))
 
 module _ (p limit : ℕ) (slots : Slots) (start size : ℕ) (bytes marks : List ℕ) (h : RangeHere p limit slots start size bytes marks) where

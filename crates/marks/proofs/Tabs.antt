@@ -20,7 +20,7 @@ tab-at i zero f k d h = absurd (not-suc-le-zero h)
 tab-at i (suc n) f zero d h = rw add-zero
 tab-at i (suc n) f (suc k) d h = tab-at (suc i) n f k d (le-of-suc-le-suc h) ∙ ap f (omega arith)
 
-pub tab-join : (i n m : ℕ) (f : ℕ → ℕ) → tab i (n + m) f ≡ tab i n f ++ tab (i + n) m f
+tab-join : (i n m : ℕ) (f : ℕ → ℕ) → tab i (n + m) f ≡ tab i n f ++ tab (i + n) m f
 unfolding tab
 tab-join i zero m f = rw (zero-add, add-zero)
 tab-join i (suc n) m f =
@@ -35,13 +35,13 @@ tab-same i (suc n) f g h =
     let t : tab (suc i) n f ≡ tab (suc i) n g = tab-same (suc i) n f g (λ k l u. h k (omega arith) (omega arith)) in
     cc
 
-pub tab-take : (i n m : ℕ) (f : ℕ → ℕ) → n ≤ m → take n (tab i m f) ≡ tab i n f
+tab-take : (i n m : ℕ) (f : ℕ → ℕ) → n ≤ m → take n (tab i m f) ≡ tab i n f
 tab-take i n m f h =
     let q : n + (m - n) ≡ m = add-sub-of-le h in
     subst (λ (k : ℕ). take n (tab i k f) ≡ tab i n f) q
     (ap (take n) (tab-join i n (m - n) f) ∙ take-at (tab i n f) (tab (i + n) (m - n) f) n (tab-length i n f))
 
-pub tab-drop : (i n m : ℕ) (f : ℕ → ℕ) → n ≤ m → drop n (tab i m f) ≡ tab (i + n) (m - n) f
+tab-drop : (i n m : ℕ) (f : ℕ → ℕ) → n ≤ m → drop n (tab i m f) ≡ tab (i + n) (m - n) f
 tab-drop i n m f h =
     let q : n + (m - n) ≡ m = add-sub-of-le h in
     subst (λ (k : ℕ). drop n (tab i k f) ≡ tab (i + n) (m - n) f) q

@@ -14,7 +14,7 @@ use Rattle.sha.specs.Hash.{Hash, chain}
 
 -- WORDS are read by their bytes alone
 
-pub words-ext : (z n : ℕ) (a b : List ℕ) (j k : ℕ) → ((i : ℕ) → i < z * n → getD a (j + i) 0 ≡ getD b (k + i) 0) → words z n a j ≡ words z n b k
+words-ext : (z n : ℕ) (a b : List ℕ) (j k : ℕ) → ((i : ℕ) → i < z * n → getD a (j + i) 0 ≡ getD b (k + i) 0) → words z n a j ≡ words z n b k
 unfolding words
 words-ext z zero a b j k h = refl
 words-ext z (suc n) a b j k h =
@@ -26,10 +26,10 @@ words-ext z (suc n) a b j k h =
 pub words-take : (z n e : ℕ) (l : List ℕ) (j : ℕ) → j + z * n ≤ e → words z n (take e l) j ≡ words z n l j
 words-take z n e l j h = words-ext z n (take e l) l j j (λ i b. getD-take e l (j + i) 0 (omega arith))
 
-pub words-append : (z n : ℕ) (l p : List ℕ) (j : ℕ) → j + z * n ≤ length l → words z n (l ++ p) j ≡ words z n l j
+words-append : (z n : ℕ) (l p : List ℕ) (j : ℕ) → j + z * n ≤ length l → words z n (l ++ p) j ≡ words z n l j
 words-append z n l p j h = words-ext z n (l ++ p) l j j (λ i b. List·getD-append l p 0 (j + i) (omega arith))
 
-pub words-drop : (z n d : ℕ) (l : List ℕ) (j : ℕ) → words z n (drop d l) j ≡ words z n l (d + j)
+words-drop : (z n d : ℕ) (l : List ℕ) (j : ℕ) → words z n (drop d l) j ≡ words z n l (d + j)
 words-drop z n d l j = words-ext z n (drop d l) l j (d + j) (λ i b. getD-drop d l (j + i) 0 ∙ ap (λ (x : ℕ). getD l x 0) (sym (add-assoc d j i)))
 
 -- BLOCKS
@@ -44,7 +44,7 @@ unfolding chain
 chain-two f h m = ap₂ (λ (x : List ℕ) (y : ℕ). f .block x (words (f .size) 16 m y)) (chain-one f h m) (mul-one (16 * f .size))
 
 -- blocks that lie inside a list are the same where more follows it
-pub chain-append : (f : Hash) (h l p : List ℕ) (n : ℕ) → 16 * f .size * n ≤ length l → chain f h (l ++ p) n ≡ chain f h l n
+chain-append : (f : Hash) (h l p : List ℕ) (n : ℕ) → 16 * f .size * n ≤ length l → chain f h (l ++ p) n ≡ chain f h l n
 unfolding chain
 chain-append f h l p zero le = refl
 chain-append f h l p (suc n) le =
@@ -83,7 +83,7 @@ pub words-more : (z i j v : ℕ) (m w : List ℕ) → i < length w → take i w 
 unfolding words
 words-more z i j v m w h e ev = take-more w i v h e ∙ rw (add-one, ev)
 
-pub store-zero : (p : List ℕ) (k i v : ℕ) → length p ≡ i → set (p ++ replicate (k + 1) 0) i v ≡ p ++ v ∷ replicate k 0
+store-zero : (p : List ℕ) (k i v : ℕ) → length p ≡ i → set (p ++ replicate (k + 1) 0) i v ≡ p ++ v ∷ replicate k 0
 store-zero p k i v e = rw (add-one k) (set-at p 0 (replicate k 0) v i e)
 
 -- a number that is stored from its last byte on: a byte more, and the number without it

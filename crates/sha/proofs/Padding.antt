@@ -13,7 +13,7 @@ use Rattle.endian.proofs.Numbers.{length-bytes, big-same, big-bytes}
 use Rattle.sha.specs.Hash.{Hash, chain, chained}
 use Rattle.sha.proofs.Blocks.{chain-one, chain-two, take-replicate, chain-split, words-take}
 
-pub length-padding-of : (z n : ℕ) → length (padding z n) ≡ (30 * z - 1 - n % (16 * z)) % (16 * z) + 1 + 2 * z
+length-padding-of : (z n : ℕ) → length (padding z n) ≡ (30 * z - 1 - n % (16 * z)) % (16 * z) + 1 + 2 * z
 unfolding padding
 length-padding-of z n = simp (length-append, length-replicate, length-bytes) (omega arith)
 
@@ -35,16 +35,16 @@ length-field z n h =
     ∙ big-bytes (2 * z) (8 * n) ∙ mod-eq-of-lt h
 
 -- how many bytes 0 the padding has, after r bytes of the last block: where one block is left, and where two are
-pub zeros-one : (z r : ℕ) → r + 1 + 2 * z ≤ 16 * z → (30 * z - 1 - r) % (16 * z) ≡ 16 * z - (1 + 2 * z) - r
+zeros-one : (z r : ℕ) → r + 1 + 2 * z ≤ 16 * z → (30 * z - 1 - r) % (16 * z) ≡ 16 * z - (1 + 2 * z) - r
 zeros-one z r h =
     let e : 30 * z - 1 - r ≡ 16 * z * 1 + (16 * z - (1 + 2 * z) - r) = omega arith in
     rw e (mul-add-mod-self-left (16 * z) 1 (16 * z - (1 + 2 * z) - r)) ∙ mod-eq-of-lt {m = 16 * z} (omega arith)
 
-pub zeros-two : (z r : ℕ) → 16 * z < r + 1 + 2 * z → r < 16 * z → (30 * z - 1 - r) % (16 * z) ≡ 32 * z - (1 + 2 * z) - r
+zeros-two : (z r : ℕ) → 16 * z < r + 1 + 2 * z → r < 16 * z → (30 * z - 1 - r) % (16 * z) ≡ 32 * z - (1 + 2 * z) - r
 zeros-two z r h b = let e : 30 * z - 1 - r ≡ 32 * z - (1 + 2 * z) - r = omega arith in rw e (mod-eq-of-lt (omega arith))
 
 -- the whole message's hash value: its whole blocks, then what is left with the padding
-pub chained-all : (f : Hash) (h m p : List ℕ) → 0 < f .size
+chained-all : (f : Hash) (h m p : List ℕ) → 0 < f .size
     → chained f (chain f h m (length m / (16 * f .size))) (drop (16 * f .size * (length m / (16 * f .size))) m ++ p) ≡ chained f h (m ++ p)
 unfolding chained
 chained-all f h m p pos =
@@ -61,13 +61,13 @@ chained-all f h m p pos =
 
 -- one block or two, at the start of a longer list
 module _ (f : Hash) (h l t : List ℕ) (pos : 0 < f .size) where
-  pub chained-1 : take (16 * f .size) t ≡ l → length l ≡ 16 * f .size → chained f h l ≡ f .block h (words (f .size) 16 t 0)
+  chained-1 : take (16 * f .size) t ≡ l → length l ≡ 16 * f .size → chained f h l ≡ f .block h (words (f .size) 16 t 0)
   unfolding chained
   chained-1 e n =
       let d : length l / (16 * f .size) ≡ 1 = rw n (div-self {n = 16 * f .size} (omega arith)) in
       ap (chain f h l) d ∙ chain-one f h l ∙ ap (f .block h) (rw (← e) (words-take (f .size) 16 (16 * f .size) t 0 (omega arith)))
 
-  pub chained-2 : take (32 * f .size) t ≡ l → length l ≡ 32 * f .size
+  chained-2 : take (32 * f .size) t ≡ l → length l ≡ 32 * f .size
       → chained f h l ≡ f .block (f .block h (words (f .size) 16 t 0)) (words (f .size) 16 t (16 * f .size))
   unfolding chained
   chained-2 e n =
@@ -79,7 +79,7 @@ module _ (f : Hash) (h l t : List ℕ) (pos : 0 < f .size) where
       (rw (← e) (words-take (f .size) 16 (32 * f .size) t (16 * f .size) (omega arith)))
 
 -- the bytes of a number: those above, then those below
-pub bytes-append : (a b x : ℕ) → bytes (a + b) x ≡ bytes a (x / 256 ^ b) ++ bytes b x
+bytes-append : (a b x : ℕ) → bytes (a + b) x ≡ bytes a (x / 256 ^ b) ++ bytes b x
 unfolding bytes
 bytes-append zero b x = rw zero-add
 bytes-append (suc a) b x =
@@ -89,7 +89,7 @@ bytes-append (suc a) b x =
     (bytes-append a b x)
 
 -- 8 * n without a product that may exceed a machine word: its last byte, and the bytes before it
-pub bytes-length : (w n : ℕ) → bytes w (n / 32) ++ (n % 32 * 8 ∷ []) ≡ bytes (w + 1) (8 * n)
+bytes-length : (w n : ℕ) → bytes w (n / 32) ++ (n % 32 * 8 ∷ []) ≡ bytes (w + 1) (8 * n)
 unfolding bytes
 bytes-length w n =
     let a : n / 32 ≡ 8 * n / 256 ^ 1 = omega arith in
@@ -135,7 +135,7 @@ module _ (z : ℕ) (rest t u : List ℕ) (n e k hi lo : ℕ) (pos : 0 < z) (le :
       ∙ ap (λ (l : List ℕ). p ++ l) (rw (ehi, elo) (bytes-length (2 * z - 1) n) ∙ ap (λ (x : ℕ). bytes x (8 * n)) (sym w))
 
 -- the last blocks are the last bytes and the padding
-pub padded-tail : (z : ℕ) (rest : List ℕ) (n j : ℕ) → j ≡ (30 * z - 1 - n % (16 * z)) % (16 * z)
+padded-tail : (z : ℕ) (rest : List ℕ) (n j : ℕ) → j ≡ (30 * z - 1 - n % (16 * z)) % (16 * z)
     → rest ++ (128 ∷ replicate j 0) ++ bytes (2 * z) (8 * n) ≡ rest ++ padding z n
 unfolding padding
 padded-tail z rest n j h = append-assoc rest (128 ∷ replicate j 0) (bytes (2 * z) (8 * n)) ∙ rw h

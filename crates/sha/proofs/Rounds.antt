@@ -31,7 +31,7 @@ unfolding rounds
 rounds-more q t h ws es ek er = rw (add-one, er, es, ek)
 
 -- a word more of a schedule that is kept whole
-pub schedule-more : (q : Core) (t n v : ℕ) (ms w : List ℕ) → t ≡ 16 + n → t < length w → take t w ≡ schedule q n ms → v ≡ next q w t
+schedule-more : (q : Core) (t n v : ℕ) (ms w : List ℕ) → t ≡ 16 + n → t < length w → take t w ≡ schedule q n ms → v ≡ next q w t
     → take (t + 1) (set w t v) ≡ schedule q (n + 1) ms
 unfolding grown
 schedule-more q t n v ms w et h e ev =

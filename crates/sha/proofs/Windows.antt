@@ -88,7 +88,7 @@ module _ (f : Rule) (near : Local f) (n : ℕ) (ms : List ℕ) (sixteen : length
       }
 
   -- k new words
-  pub held-rolled : (t i k : ℕ) (w : List ℕ) → t % 16 ≡ i % 16 → Held (16 + n) ws t w → Held (16 + n) ws (t + k) (rolled f i k w)
+  held-rolled : (t i k : ℕ) (w : List ℕ) → t % 16 ≡ i % 16 → Held (16 + n) ws t w → Held (16 + n) ws (t + k) (rolled f i k w)
   unfolding rolled
   held-rolled t i zero w at o = rw (add-zero t) o
   held-rolled t i (suc k) w at o =

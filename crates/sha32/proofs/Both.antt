@@ -31,7 +31,7 @@ pub size32 : (f : Function) → hash32 f .size ≡ 4
 size32 f = both (λ x. x .size ≡ 4) refl refl f
 
 -- five words of a list
-pub first-five : (l : List ℕ) → 5 ≤ length l → getD l 0 0 ∷ getD l 1 0 ∷ getD l 2 0 ∷ getD l 3 0 ∷ getD l 4 0 ∷ [] ≡ take 5 l
+first-five : (l : List ℕ) → 5 ≤ length l → getD l 0 0 ∷ getD l 1 0 ∷ getD l 2 0 ∷ getD l 3 0 ∷ getD l 4 0 ∷ [] ≡ take 5 l
 first-five [] h = absurd (omega arith)
 first-five (a ∷ []) h = absurd (omega arith)
 first-five (a ∷ b ∷ []) h = absurd (omega arith)
