@@ -1,5 +1,5 @@
 -- The digest of the blob, cut: what stands behind a digest is cut off too.
-use mathlib.Core.Path.{_≡_, refl, ap, _∙_}
+use mathlib.Core.Path.{_≡_, ap, _∙_}
 use mathlib.Core.List.{List, _++_}
 use Prim.Native.Nat.{ℕ}
 use native.Mathlib.Omega.{arith}
@@ -16,10 +16,11 @@ use borrow.Author.Needs.{needs}
 use Rattle.cdhash.proofs.cdhash.Statement.{statement}
 use Rattle.cdhash.proofs.cdhash.Tie as tie
 
-cut-digest : (d zeros : List ℕ) → take cdhashLength (digestOf sha256Type d ++ zeros) ≡ cdhash d
+cut-digest : (kind : ℕ) (d zeros : List ℕ) → kind ≡ sha256Type → take cdhashLength (digestOf kind d ++ zeros) ≡ cdhash d
 unfolding cdhash
-cut-digest d zeros =
-    take-append-le cdhashLength (digestOf sha256Type d) zeros (omega (arith, digest-length sha256Type d, width-sha256 sha256Type refl))
+cut-digest kind d zeros e =
+    take-append-le cdhashLength (digestOf kind d) zeros (omega (arith, digest-length kind d, width-sha256 kind e))
+    ∙ ap (λ (k : ℕ). take cdhashLength (digestOf k d)) e
     ∙ ap (take cdhashLength) (kinds-plainly .by-sha256 d)
 
 digest-requires : tie.Need-digest-requires
@@ -29,7 +30,7 @@ cut-requires : tie.Need-cut-requires
 cut-requires c κs = search needs
 
 returns : tie.Need-returns
-returns c = c .cut .ensures ∙ ap (take cdhashLength) (c .before .digest .ensures) ∙ cut-digest _ _
+returns c = c .cut .ensures ∙ ap (take cdhashLength) (c .before .digest .ensures) ∙ cut-digest _ _ _ (omega arith)
 
 pub cdhash-spec : {M : Type 1} → statement M
 cdhash-spec = tie.close (tie.spec digest-requires cut-requires returns)
