@@ -1,4 +1,5 @@
-// The functions of FIPS 180-4, section 4.1.3, on words of 64 bits.
+// The functions of FIPS 180-4, section 4.1.3, on words of 64 bits. Ch and Maj are computed in forms that take fewer
+// operations than the standard's; they are equal by `ch-short` and `maj-short` of `sha`.
 ghost use mathlib.Core.Path.{_≡_};
 ghost use Prim.Native.Nat.{_<_};
 ghost use Rattle.sha.specs.Words.{plus, rotr, ch, maj, bigSigma, smallSigma};
