@@ -5,7 +5,7 @@
 
 use crate::answer::{refuse, refuse_at, Answer};
 use crate::bytes::{le32, part, u8_at};
-use crate::directory::{CS_CDHASH_LEN, CS_HASHTYPE_SHA256};
+use crate::directory::CS_CDHASH_LEN;
 
 pub const HEAD: u64 = 24;
 pub const ENTRY: u64 = 24;
@@ -46,8 +46,9 @@ pub struct Listed {
     pub category: u64,
 }
 
-/// Tests 24 to 28. Slices compare first byte first, as the order asks.
-pub fn test(cache: &[u8], cdhash: &[u8; CS_CDHASH_LEN]) -> Result<Listed, Answer> {
+/// Tests 24 to 28, for a directory's own hash and its kind. Slices compare first byte first, as
+/// the order asks.
+pub fn test(cache: &[u8], cdhash: &[u8; CS_CDHASH_LEN], kind: u64) -> Result<Listed, Answer> {
     if malformed(cache) {
         return refuse(24);
     }
@@ -58,7 +59,7 @@ pub fn test(cache: &[u8], cdhash: &[u8; CS_CDHASH_LEN]) -> Result<Listed, Answer
     let Some(entry) = (0..count(cache)).find(|&e| hash_at(cache, e) == cdhash) else {
         return refuse(26);
     };
-    if hash_type_at(cache, entry) != CS_HASHTYPE_SHA256 {
+    if hash_type_at(cache, entry) != kind {
         return refuse_at(27, entry);
     }
     let category = category_at(cache, entry);

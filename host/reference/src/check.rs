@@ -35,7 +35,7 @@ fn test<'a>(lent: &Lent<'a>, marks: u64) -> Result<(Directory<'a>, u64), Answer>
         return refuse(20);
     }
     slots::test(lent.signature, &directory, &lent.files)?;
-    let listed = cache::test(lent.cache, &directory.cdhash())?;
+    let listed = cache::test(lent.cache, &directory.cdhash(), directory.hash_type())?;
     launch::test(listed.category, &lent.launch)?;
     Ok((directory, listed.entry))
 }

@@ -5,12 +5,10 @@
 
 use crate::answer::{refuse, Answer};
 use crate::bytes::{be32, be64, part, u8_at};
+use crate::kinds;
 use crate::pages;
-use crate::sha256;
 use crate::superblob;
 
-pub const SLOT: u64 = 32;
-pub const CS_HASHTYPE_SHA256: u64 = 2;
 pub const CSSLOT_CODEDIRECTORY: u64 = 0;
 pub const MOST_CODE_SLOTS: u64 = 1_048_576;
 pub const MOST_CODE_LIMIT: u64 = 17_179_869_184;
@@ -51,8 +49,13 @@ pub fn head_size(version: u64) -> Option<u64> {
 }
 
 /// The first 20 bytes of a directory's hash.
-pub fn cut(hash: [u8; 32]) -> [u8; CS_CDHASH_LEN] {
+pub fn cut(hash: &[u8]) -> [u8; CS_CDHASH_LEN] {
     std::array::from_fn(|i| hash[i])
+}
+
+/// A directory's own hash: of its whole blob, by its kind, cut.
+pub fn cdhash(kind: u64, blob: &[u8]) -> [u8; CS_CDHASH_LEN] {
+    cut(&kinds::digest(kind, blob))
 }
 
 /// A directory's blob, head included, and where it starts in the signature.
@@ -113,14 +116,20 @@ impl<'a> Directory<'a> {
         pages::page_size(self.page_shift(), self.code_limit())
     }
 
-    /// Where code slot i lies.
-    fn code_slot_start(&self, i: u64) -> u64 {
-        self.hash_offset() + SLOT * i
+    /// The bytes of a slot, of a directory that passed test 13.
+    fn slot_width(&self) -> u64 {
+        kinds::width(self.hash_type()).expect("tested by 13")
     }
 
-    /// The 32 bytes of code slot i.
+    /// The digest of a page or a thing, as its slot must hold it.
+    pub fn digest(&self, message: &[u8]) -> Vec<u8> {
+        kinds::digest(self.hash_type(), message)
+    }
+
+    /// Code slot i.
     pub fn code_slot(&self, i: u64) -> &'a [u8] {
-        part(self.bytes, self.code_slot_start(i), SLOT)
+        let width = self.slot_width();
+        part(self.bytes, self.hash_offset() + width * i, width)
     }
 
     /// Special slot k, k from 1; none where it is empty.
@@ -128,7 +137,8 @@ impl<'a> Directory<'a> {
         if k > self.special_slots() {
             return None;
         }
-        let slot = part(self.bytes, self.hash_offset() - SLOT * k, SLOT);
+        let width = self.slot_width();
+        let slot = part(self.bytes, self.hash_offset() - width * k, width);
         slot.iter().any(|&byte| byte != 0).then_some(slot)
     }
 
@@ -159,9 +169,8 @@ impl<'a> Directory<'a> {
         ]
     }
 
-    /// The hash of the whole blob, cut.
     pub fn cdhash(&self) -> [u8; CS_CDHASH_LEN] {
-        cut(sha256::digest(self.bytes))
+        cdhash(self.hash_type(), self.bytes)
     }
 
     /// Test 16.
@@ -175,7 +184,7 @@ impl<'a> Directory<'a> {
     /// then free. Signed numbers, as a special slot may start below 0.
     fn slot_outside(&self, head: u64) -> bool {
         let (head, length) = (head as i128, self.length() as i128);
-        let (base, slot) = (self.hash_offset() as i128, SLOT as i128);
+        let (base, slot) = (self.hash_offset() as i128, self.slot_width() as i128);
         let special = 1..=self.special_slots() as i128;
         let code = 0..self.code_slots() as i128;
         let starts = special.map(|k| base - slot * k).chain(code.map(|i| base + slot * i));
@@ -207,7 +216,7 @@ fn test_fields(directory: &Directory) -> Result<u64, Answer> {
     if directory.length() < head {
         return refuse(12);
     }
-    if directory.hash_type() != CS_HASHTYPE_SHA256 || directory.hash_size() != SLOT {
+    if kinds::width(directory.hash_type()) != Some(directory.hash_size()) {
         return refuse(13);
     }
     if ![0, 12, 14].contains(&directory.page_shift()) {

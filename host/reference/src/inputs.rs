@@ -2,10 +2,9 @@
 
 use crate::answer::Answer;
 use crate::check::{check, Lent};
-use crate::directory::cut;
+use crate::kinds::CS_HASHTYPE_SHA256;
 use crate::launch::Launch;
 use crate::make::{CacheEntry, CachePlan, DirectoryPlan, SignaturePlan};
-use crate::sha256::digest;
 use crate::slots::SideFiles;
 
 /// Launch facts under which category 1 passes.
@@ -33,10 +32,15 @@ pub struct InputsPlan {
 }
 
 impl InputsPlan {
-    /// A signed image without other blobs or side files, alone in its cache.
+    /// An image signed by SHA-256 without other blobs or side files, alone in its cache.
     pub fn new(version: u32, image: Vec<u8>, page_shift: u8) -> InputsPlan {
+        InputsPlan::of_kind(CS_HASHTYPE_SHA256, version, image, page_shift)
+    }
+
+    /// The same with a directory of a hash kind.
+    pub fn of_kind(kind: u8, version: u32, image: Vec<u8>, page_shift: u8) -> InputsPlan {
         InputsPlan {
-            directory: DirectoryPlan::new(version).over(&image, page_shift),
+            directory: DirectoryPlan::of_kind(version, kind).over(&image, page_shift),
             blobs: Vec::new(),
             image,
             info: None,
@@ -54,7 +58,8 @@ impl InputsPlan {
         things.extend(self.resources.iter().map(|resources| (3, resources.as_slice())));
         things.extend(self.blobs.iter().map(|(kind, bytes)| (*kind, bytes.as_slice())));
         for (k, thing) in things.into_iter().filter(|(k, _)| *k <= 11) {
-            self.directory = self.directory.with_special(k as usize, digest(thing));
+            let slot = self.directory.digest(thing);
+            self.directory = self.directory.with_special(k as usize, slot);
         }
         self
     }
@@ -68,7 +73,8 @@ impl InputsPlan {
 
     /// The cache: the directory's entry among its neighbours, in order.
     pub fn cache(&self) -> CachePlan {
-        let own = CacheEntry::new(cut(digest(&self.directory.bytes())), self.category);
+        let directory = &self.directory;
+        let own = CacheEntry::of_kind(directory.kind, directory.cdhash(), self.category);
         let mut entries: Vec<CacheEntry> =
             self.neighbours.iter().map(|hash| CacheEntry::new(*hash, 0)).collect();
         entries.push(own);

@@ -3,11 +3,12 @@
 //! A plan holds every field apart. A field that is `None` gets the value that makes
 //! the whole well formed; a field that is given is written as it is.
 
-use crate::directory::head_size;
-use crate::sha256::digest;
+use crate::directory::{cdhash, head_size};
+use crate::kinds::{self, CS_HASHTYPE_SHA256};
 use crate::superblob::{self, magic_of};
 
-pub type Slot = [u8; 32];
+/// A slot of any width.
+pub type Slot = Vec<u8>;
 
 /// Writes a big-endian number over four bytes.
 pub fn put32(bytes: &mut [u8], at: usize, value: u32) {
@@ -46,10 +47,17 @@ pub fn blob_of(kind: u32, contents: &[u8]) -> Vec<u8> {
     blob(magic_of(u64::from(kind)).expect("a known type") as u32, contents)
 }
 
+/// The bytes of a kind's slots.
+pub fn width(kind: u8) -> usize {
+    kinds::width(u64::from(kind)).expect("a hash kind") as usize
+}
+
 /// A directory to build: head, identifier, special slots from the highest down, code
 /// slots, tail.
 #[derive(Clone, Debug)]
 pub struct DirectoryPlan {
+    /// The kind that slots and the directory's own hash are made by, whatever the fields say.
+    pub kind: u8,
     pub version: u32,
     pub flags: u32,
     pub hash_offset: Option<u32>,
@@ -73,9 +81,15 @@ pub struct DirectoryPlan {
 }
 
 impl DirectoryPlan {
-    /// A well-formed directory without pages.
+    /// A well-formed directory of SHA-256 without pages.
     pub fn new(version: u32) -> DirectoryPlan {
+        DirectoryPlan::of_kind(version, CS_HASHTYPE_SHA256)
+    }
+
+    /// The same of a hash kind.
+    pub fn of_kind(version: u32, kind: u8) -> DirectoryPlan {
         DirectoryPlan {
+            kind,
             version,
             flags: 2,
             hash_offset: None,
@@ -83,8 +97,8 @@ impl DirectoryPlan {
             special_count: None,
             code_count: None,
             code_limit: 0,
-            hash_size: 32,
-            hash_type: 2,
+            hash_size: width(kind) as u8,
+            hash_type: kind,
             platform: 0,
             page_shift: 12,
             scatter_offset: 0,
@@ -102,16 +116,31 @@ impl DirectoryPlan {
         self.code_limit = image.len() as u32;
         self.code = match page_shift {
             _ if image.is_empty() => Vec::new(),
-            0 => vec![digest(image)],
-            shift => image.chunks(1 << shift).map(digest).collect(),
+            0 => vec![self.digest(image)],
+            shift => image.chunks(1 << shift).map(|page| self.digest(page)).collect(),
         };
         self
+    }
+
+    /// The digest by the plan's kind.
+    pub fn digest(&self, message: &[u8]) -> Slot {
+        kinds::digest(u64::from(self.kind), message)
+    }
+
+    /// The directory's own hash by the plan's kind.
+    pub fn cdhash(&self) -> [u8; 20] {
+        cdhash(u64::from(self.kind), &self.bytes())
+    }
+
+    /// An empty slot of the plan's kind.
+    pub fn empty(&self) -> Slot {
+        vec![0; width(self.kind)]
     }
 
     /// Sets special slot k, k from 1; the slots below it that are not set are empty.
     pub fn with_special(mut self, k: usize, slot: Slot) -> DirectoryPlan {
         if self.special.len() < k {
-            self.special.resize(k, [0; 32]);
+            self.special.resize(k, self.empty());
         }
         self.special[k - 1] = slot;
         self
@@ -124,7 +153,8 @@ impl DirectoryPlan {
 
     /// Where code slot 0 is laid, whatever the field says.
     pub fn slots_start(&self) -> usize {
-        self.head() + self.identifier.len() + 1 + 32 * self.special.len()
+        let special: usize = self.special.iter().map(Vec::len).sum();
+        self.head() + self.identifier.len() + 1 + special
     }
 
     pub fn bytes(&self) -> Vec<u8> {
@@ -253,7 +283,11 @@ pub struct CacheEntry {
 
 impl CacheEntry {
     pub fn new(hash: [u8; 20], category: u8) -> CacheEntry {
-        CacheEntry { hash, hash_type: 2, flags: 0, category, reserved: 0 }
+        CacheEntry::of_kind(CS_HASHTYPE_SHA256, hash, category)
+    }
+
+    pub fn of_kind(kind: u8, hash: [u8; 20], category: u8) -> CacheEntry {
+        CacheEntry { hash, hash_type: kind, flags: 0, category, reserved: 0 }
     }
 }
 

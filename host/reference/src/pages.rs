@@ -1,7 +1,6 @@
 //! Pages of an image: P, their number, their bounds, and those that a range meets.
 
 use crate::directory::Directory;
-use crate::sha256;
 
 /// P: 2 to the pageSize field, or the whole code limit where that field is 0.
 pub fn page_size(page_shift: u64, code_limit: u64) -> u64 {
@@ -46,7 +45,7 @@ pub fn bytes_of(directory: &Directory, first: u64, last: u64) -> u64 {
 
 /// The mark of page i with these bytes: 0 agrees with its slot, 1 differs.
 pub fn mark(directory: &Directory, i: u64, page: &[u8]) -> u8 {
-    u8::from(sha256::digest(page) != directory.code_slot(i))
+    u8::from(directory.digest(page) != directory.code_slot(i))
 }
 
 /// The lowest page marked 1.

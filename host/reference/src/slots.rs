@@ -2,7 +2,6 @@
 
 use crate::answer::{refuse_at, Answer};
 use crate::directory::{Directory, MOST_SPECIAL_SLOTS};
-use crate::sha256;
 use crate::superblob;
 
 /// The side files of a whole check; none where the flag is off.
@@ -27,7 +26,7 @@ pub fn test(signature: &[u8], directory: &Directory, files: &SideFiles) -> Resul
     for k in 1..=MOST_SPECIAL_SLOTS {
         match (directory.special_slot(k), thing(signature, files, k)) {
             (Some(_), None) => return refuse_at(21, k),
-            (Some(slot), Some(thing)) if sha256::digest(thing) != slot => return refuse_at(22, k),
+            (Some(slot), Some(thing)) if directory.digest(thing) != slot => return refuse_at(22, k),
             (None, Some(_)) => return refuse_at(23, k),
             _ => {}
         }

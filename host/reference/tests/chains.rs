@@ -3,6 +3,7 @@
 use reference::answer::Answer;
 use reference::directory::read;
 use reference::inputs::{Inputs, InputsPlan};
+use reference::kinds::KINDS;
 use reference::pages;
 use reference::random::Random;
 use reference::recheck::{recheck, Range};
@@ -18,7 +19,8 @@ struct Chain {
 fn start(random: &mut Random) -> Chain {
     let length = *random.pick(&[0usize, 1, 4095, 4096, 4097, 8192, 8193, 12289, 16385]);
     let shift = *random.pick(&[0u8, 12, 12, 14]);
-    let mut inputs = InputsPlan::new(0x20400, random.bytes(length), shift).build();
+    let kind = *random.pick(&KINDS);
+    let mut inputs = InputsPlan::of_kind(kind, 0x20400, random.bytes(length), shift).build();
     let behind = random.below(3) as usize;
     inputs.image.extend(random.bytes(behind));
     let signed = inputs.image.clone();

@@ -68,7 +68,7 @@ fn one_blob_and_sixty_four() {
 
 #[test]
 fn lowest_hash_offset() {
-    let mut plan = DirectoryPlan::new(0x20001).with_special(1, [1; 32]);
+    let mut plan = DirectoryPlan::new(0x20001).with_special(1, vec![1; 32]);
     for (offset, number) in [(76, 0), (75, 17)] {
         plan.hash_offset = Some(offset);
         assert_eq!(tested(&SignaturePlan::new(vec![(0, plan.bytes())]).bytes()), number);

@@ -174,12 +174,12 @@ fn lent_19_and_20() {
 fn slots_21_to_23() {
     refused(&with_scene(|s| s.info = None), 21, 1);
     refused(&with_scene(|s| s.resources = None), 21, 3);
-    refused(&with_plan(|p| p.directory.special[3] = [1; 32]), 21, 4);
-    refused(&with_plan(|p| p.directory.special[5] = [1; 32]), 21, 6);
+    refused(&with_plan(|p| p.directory.special[3] = vec![1; 32]), 21, 4);
+    refused(&with_plan(|p| p.directory.special[5] = vec![1; 32]), 21, 6);
     refused(&with_plan(|p| p.blobs.retain(|blob| blob.0 != 9)), 21, 9);
     refused(&with_scene(|s| s.resources = Some(vec![0])), 22, 3);
     refused(&with_plan(|p| p.directory.special[4][31] ^= 1), 22, 5);
-    refused(&with_plan(|p| p.directory.special[2] = [0; 32]), 23, 3);
+    refused(&with_plan(|p| p.directory.special[2] = vec![0; 32]), 23, 3);
     refused(&with_plan(|p| p.directory.special.truncate(10)), 23, 11);
     refused(&with_plan(|p| p.directory.special.clear()), 23, 1);
 }
@@ -187,8 +187,7 @@ fn slots_21_to_23() {
 /// A hash that covers a blob without its head does not agree.
 #[test]
 fn blob_hashed_without_head() {
-    let without = reference::sha256::digest(b"data");
-    refused(&with_plan(|p| p.directory.special[4] = without), 22, 5);
+    refused(&with_plan(|p| p.directory.special[4] = p.directory.digest(b"data")), 22, 5);
 }
 
 fn with_entries(change: impl Fn(&mut Vec<CacheEntry>)) -> Inputs {
