@@ -29,12 +29,11 @@ fn schedule(block: &[u8]) -> [u32; 80] {
 
 /// §6.1.2, steps 2 to 4.
 fn compress(h: [u32; 5], block: &[u8]) -> [u32; 5] {
-    let w = schedule(block);
     let mut v = h;
-    for t in 0..80 {
+    for (t, w) in schedule(block).into_iter().enumerate() {
         let [a, b, c, d, e] = v;
         let (f, k) = round(t);
-        let sum = a.rotl(5).plus(f(b, c, d)).plus(e).plus(k).plus(w[t]);
+        let sum = a.rotl(5).plus(f(b, c, d)).plus(e).plus(k).plus(w);
         v = [sum, a, b.rotl(30), c, d];
     }
     summed(h, v)

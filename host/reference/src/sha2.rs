@@ -50,11 +50,10 @@ pub fn compress<W: Sigma, const ROUNDS: usize>(
     hash: [W; 8],
     block: &[u8],
 ) -> [W; 8] {
-    let w = schedule::<W, ROUNDS>(block);
     let mut v = hash;
-    for t in 0..ROUNDS {
+    for (k, w) in k.iter().zip(schedule::<W, ROUNDS>(block)) {
         let [a, b, c, d, e, f, g, h] = v;
-        let t1 = h.plus(big_sigma(e, W::BIG1)).plus(ch(e, f, g)).plus(k[t]).plus(w[t]);
+        let t1 = h.plus(big_sigma(e, W::BIG1)).plus(ch(e, f, g)).plus(*k).plus(w);
         let t2 = big_sigma(a, W::BIG0).plus(maj(a, b, c));
         v = [t1.plus(t2), a, b, c, d.plus(t1), e, f, g];
     }

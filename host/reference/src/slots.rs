@@ -26,7 +26,9 @@ pub fn test(signature: &[u8], directory: &Directory, files: &SideFiles) -> Resul
     for k in 1..=MOST_SPECIAL_SLOTS {
         match (directory.special_slot(k), thing(signature, files, k)) {
             (Some(_), None) => return refuse_at(21, k),
-            (Some(slot), Some(thing)) if directory.digest(thing) != slot => return refuse_at(22, k),
+            (Some(slot), Some(thing)) if directory.digest(thing) != slot => {
+                return refuse_at(22, k)
+            }
             (None, Some(_)) => return refuse_at(23, k),
             _ => {}
         }

@@ -1,5 +1,6 @@
 //! Words of 32 and of 64 bits: what the hashes of FIPS 180-4 share over the word.
 
+use std::mem::size_of;
 use std::ops::{BitAnd, BitXor, Not, Shr};
 
 /// §3.2: the operations on words. Sums are modulo 2 to the word's bits.
