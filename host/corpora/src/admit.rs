@@ -57,7 +57,7 @@ pub fn files() -> Vec<(&'static str, Vec<u8>)> {
     let good = plan().build();
     let no_code = InputsPlan::new(0x20400, Vec::new(), 12).build();
     let mut uncovered = plan();
-    uncovered.directory.special[1] = [0; 32];
+    uncovered.directory.special[1] = uncovered.directory.empty();
     let uncovered = uncovered.build();
     let constrained = InputsPlan { category: 1, ..plan() }.build();
     let [long_signature, long_image, long_cache] = TOO_LONG;

@@ -8,6 +8,7 @@ use reference::bytes::{be32, be64};
 use reference::cache;
 use reference::check::{check, Lent};
 use reference::directory;
+use reference::kinds::CS_HASHTYPE_SHA256;
 use reference::launch::{self, Launch};
 use reference::recheck::{recheck, Range};
 use reference::slots::{self, SideFiles};
@@ -116,9 +117,11 @@ fn tested_slots(fields: &Fields) -> Answer {
     tested.err().unwrap_or(DONE)
 }
 
+/// The hash that is looked for is of a directory by SHA-256.
 fn tested_cache(fields: &Fields) -> Answer {
+    let kind = u64::from(CS_HASHTYPE_SHA256);
     let hash = fields[HASH].try_into().expect("a hash of 20 bytes");
-    let tested = cache::test(fields[CACHE], hash).and_then(|listed| {
+    let tested = cache::test(fields[CACHE], hash, kind).and_then(|listed| {
         launch::test(listed.category, &launch_facts(fields)).map(|()| listed.entry)
     });
     tested.map_or_else(|refusal| refusal, |entry| Answer { number: 0, place: entry })

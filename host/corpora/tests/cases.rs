@@ -10,11 +10,15 @@ use corpora::subjects;
 use reference::answer::Answer;
 use reference::directory;
 
+mod lines;
+
+use lines::{answered, lines_of};
+
 fn signature(case: &Case) -> &[u8] {
     case.field(SIGNATURE).unwrap()
 }
 
-/// Six signatures have fifteen different fields; only where the whole image is one page may the
+/// Nine signatures have fifteen different fields; only where the whole image is one page may the
 /// page size be the code limit.
 #[test]
 fn fields_of_readers_differ() {
@@ -26,7 +30,7 @@ fn fields_of_readers_differ() {
         assert_eq!(values.len(), if one_page { 14 } else { 15 }, "{:?}", directory.fields());
         different += usize::from(!one_page);
     }
-    assert_eq!(different, 6);
+    assert_eq!(different, 9);
 }
 
 /// Refused readers: every number, and where a number has a place it is another number, not 0.
@@ -51,32 +55,24 @@ fn readers_look_all_types_up() {
     }
 }
 
-/// The number and place that the line of a case gives.
-fn answered(lines: &[String], name: &str) -> String {
-    let line = lines.iter().find_map(|line| line.strip_prefix(&format!("{name}: ")));
-    line.expect(name).split_whitespace().take(2).collect::<Vec<_>>().join(" ")
-}
-
 /// Of the 32 bits alone nine pass, in each call that makes test 46.
 #[test]
 fn bits_alone() {
-    let files = subjects::make();
-    let lines = |name: &str| &files.iter().find(|made| made.name == name).unwrap().lines;
     for (file, call) in
         [("signatures", "version 0x20001"), ("checks", "check"), ("checks", "recheck")]
     {
         let answers = (0..32).map(|bit| {
             let name = format!("{call}, flags {:#x}", 1u32 << bit);
-            answered(lines(file), &name)
+            answered(lines_of(file), &name)
         });
         let passed: Vec<usize> =
             answers.enumerate().filter(|(_, said)| said == "0 0").map(|(bit, _)| bit).collect();
         assert_eq!(passed, [1, 8, 9, 10, 11, 12, 13, 16, 17], "{call}");
         for flags in ["0x0", "0x33f02"] {
-            assert_eq!(answered(lines(file), &format!("{call}, flags {flags}")), "0 0");
+            assert_eq!(answered(lines_of(file), &format!("{call}, flags {flags}")), "0 0");
         }
         for flags in ["0x1", "0x33f03", "0xffffffff"] {
-            assert_eq!(answered(lines(file), &format!("{call}, flags {flags}")), "46 0");
+            assert_eq!(answered(lines_of(file), &format!("{call}, flags {flags}")), "46 0");
         }
     }
 }
@@ -91,8 +87,7 @@ const WITH_SCATTER: [u32; 11] = [
 /// rechecks.
 #[test]
 fn scatter_offset_of_each_version() {
-    let files = subjects::make();
-    let lines = &files.iter().find(|made| made.name == "checks").unwrap().lines;
+    let lines = lines_of("checks");
     let older = OLDER.map(|version| (version, "0 0"));
     let later = WITH_SCATTER.map(|version| (version, "35 0"));
     for (version, wanted) in older.into_iter().chain(later) {
@@ -110,8 +105,7 @@ fn scatter_offset_of_each_version() {
 /// other; byte 56 makes codeLimit64 too large from version 0x20300 on.
 #[test]
 fn bytes_about_scatter_offset() {
-    let files = subjects::make();
-    let lines = &files.iter().find(|made| made.name == "signatures").unwrap().lines;
+    let lines = lines_of("signatures");
     for version in WITH_SCATTER {
         for at in 43..49 {
             let name = format!("version {version:#x}, byte {at} set");
@@ -139,8 +133,7 @@ fn bytes_about_scatter_offset() {
 /// A lookup makes neither 46 nor 35: it finds the directory where the other readers refuse.
 #[test]
 fn lookup_in_a_directory_that_is_refused() {
-    let files = subjects::make();
-    let lines = &files.iter().find(|made| made.name == "signatures").unwrap().lines;
+    let lines = lines_of("signatures");
     for (name, number) in [
         ("version 0x20001, flags 0xffffffff", 46),
         ("version 0x20100, scatterOffset 0xffffffff", 35),
@@ -154,8 +147,7 @@ fn lookup_in_a_directory_that_is_refused() {
 /// 46 and 35 against their neighbours in the table: readers.
 #[test]
 fn another_fault_beside() {
-    let files = subjects::make();
-    let lines = &files.iter().find(|made| made.name == "signatures").unwrap().lines;
+    let lines = lines_of("signatures");
     for (one, other, wanted) in [
         (13, 46, "13 0"),
         (14, 46, "14 0"),
@@ -179,8 +171,7 @@ fn another_fault_beside() {
 /// The same of whole checks and rechecks.
 #[test]
 fn another_fault_beside_in_checks() {
-    let files = subjects::make();
-    let lines = &files.iter().find(|made| made.name == "checks").unwrap().lines;
+    let lines = lines_of("checks");
     for (one, other, wanted) in [
         ("flags 0x80000002", "hash size 20", "13 0"),
         ("flags 0x80000002", "pageSize 1", "14 0"),
@@ -210,8 +201,7 @@ fn another_fault_beside_in_checks() {
 /// from 2^34 + 1 on alone: readers.
 #[test]
 fn limits_of_readers() {
-    let files = subjects::make();
-    let lines = &files.iter().find(|made| made.name == "signatures").unwrap().lines;
+    let lines = lines_of("signatures");
     for (name, wanted) in [
         ("limits 4096/0/14, codeLimit's count", "0 0"),
         ("limits 2^32 - 1/0/0, codeLimit's count", "0 0"),
@@ -239,8 +229,7 @@ fn limits_of_readers() {
 /// The same of whole checks and rechecks.
 #[test]
 fn limits_of_checks() {
-    let files = subjects::make();
-    let lines = &files.iter().find(|made| made.name == "checks").unwrap().lines;
+    let lines = lines_of("checks");
     for (name, wanted) in [
         ("check, limits 9000/5000/12", "0 0"),
         ("check, limits 9000/5000/12, next byte changed", "0 0"),
@@ -269,8 +258,6 @@ fn limits_of_checks() {
 /// Cases whose answers document 01 gives.
 #[test]
 fn answers_at_limits() {
-    let files = subjects::make();
-    let lines = |name: &str| &files.iter().find(|made| made.name == name).unwrap().lines;
     for (name, wanted) in [
         ("check, Info.plist of 4194304", "23 1"),
         ("check, Info.plist of 4194305", "1 0"),
@@ -288,7 +275,7 @@ fn answers_at_limits() {
         ("recheck 9000 of 4096-byte pages, 9001 + 0", "32 0"),
         ("recheck 9000 of 4096-byte pages, 9001 + 1", "32 0"),
     ] {
-        assert_eq!(answered(lines("checks"), name), wanted, "{name}");
+        assert_eq!(answered(lines_of("checks"), name), wanted, "{name}");
     }
     for (name, wanted) in [
         ("65536 entries in order, hash of none", "26 0"),
@@ -301,7 +288,7 @@ fn answers_at_limits() {
         ("category 1, volumes 01, launch 1, validation 2, init 1", "29 0"),
         ("category 1, volumes 01, launch 1, validation 1, init 0", "30 0"),
     ] {
-        assert_eq!(answered(lines("caches"), name), wanted, "{name}");
+        assert_eq!(answered(lines_of("caches"), name), wanted, "{name}");
     }
 }
 
@@ -312,6 +299,6 @@ fn number_of_cases() {
     let counts: Vec<(&str, usize)> =
         made.iter().map(|made| (made.name, made.lines.len())).collect();
     let wanted =
-        [("signatures", 3300), ("readers", 185), ("slots", 682), ("caches", 435), ("checks", 1894)];
+        [("signatures", 3531), ("readers", 245), ("slots", 826), ("caches", 435), ("checks", 2204)];
     assert_eq!(counts, wanted);
 }

@@ -2,6 +2,7 @@
 
 use reference::directory::read;
 use reference::inputs::{Inputs, InputsPlan, SYSTEM_SERVICE};
+use reference::kinds::CS_HASHTYPE_SHA256;
 use reference::launch::Launch;
 use reference::make::blob_of;
 use reference::pages;
@@ -13,6 +14,7 @@ use crate::case::{operation, Case, CACHE, FACTS, IMAGE, INFO, MARKS, RANGE, RESO
 mod chains;
 mod faults;
 mod flags;
+mod kinds;
 mod limits;
 mod pairs;
 mod rechecks;
@@ -55,6 +57,7 @@ pub fn cases() -> Vec<Call> {
     pairs::add(&mut calls);
     rechecks::add(&mut calls);
     chains::add(&mut calls);
+    kinds::add(&mut calls);
     calls
 }
 
@@ -136,7 +139,12 @@ fn striped(length: usize) -> Vec<u8> {
 
 /// Three pages with every thing that a slot covers, category 1, neighbours in the cache.
 pub fn full() -> InputsPlan {
-    let mut plan = InputsPlan::new(0x20400, striped(8193), 12);
+    full_of(CS_HASHTYPE_SHA256)
+}
+
+/// The same by a hash kind.
+pub fn full_of(kind: u8) -> InputsPlan {
+    let mut plan = InputsPlan::of_kind(kind, 0x20400, striped(8193), 12);
     plan.blobs =
         [2, 5, 7, 8, 9, 10, 11, 0x1000, 0x10000].map(|k| (k, blob_of(k, b"data"))).to_vec();
     plan.info = Some(b"info".to_vec());

@@ -1,8 +1,10 @@
 //! Signatures whose fields all differ from each other, so that two that are taken for one
 //! another show, and the same signatures refused by each of tests 1 to 18.
 
-use reference::directory::head_size;
-use reference::make::{blob_of, DirectoryPlan, SignaturePlan};
+use reference::kinds::{
+    CS_HASHTYPE_SHA1, CS_HASHTYPE_SHA256, CS_HASHTYPE_SHA256_TRUNCATED, CS_HASHTYPE_SHA384,
+};
+use reference::make::{blob_of, width, DirectoryPlan, SignaturePlan};
 
 use super::signatures::faults::{Subject, TESTS};
 use super::signatures::{looked_up, Named, KNOWN};
@@ -15,6 +17,7 @@ const UNKNOWN: [u32; 9] = [1, 3, 4, 6, 12, 0x1005, 0xFFFF, 0x10001, u32::MAX];
 /// What tells one signature from another.
 struct Reader {
     version: u32,
+    hash_type: u8,
     flags: u32,
     platform: u8,
     page_shift: u8,
@@ -31,9 +34,10 @@ struct Reader {
 
 /// Versions, page sizes, code limits and positions of the directory. The page size of some is their
 /// code limit; the fields of the others are all different.
-const READERS: [Reader; 9] = [
+const READERS: [Reader; 12] = [
     Reader {
         version: 0x20001,
+        hash_type: CS_HASHTYPE_SHA256,
         flags: 0x1_0002,
         platform: 7,
         page_shift: 12,
@@ -46,6 +50,7 @@ const READERS: [Reader; 9] = [
     },
     Reader {
         version: 0x20102,
+        hash_type: CS_HASHTYPE_SHA256,
         flags: 0x202,
         platform: 1,
         page_shift: 14,
@@ -58,6 +63,7 @@ const READERS: [Reader; 9] = [
     },
     Reader {
         version: 0x20200,
+        hash_type: CS_HASHTYPE_SHA256,
         flags: 0x3_3F02,
         platform: 200,
         page_shift: 12,
@@ -70,6 +76,7 @@ const READERS: [Reader; 9] = [
     },
     Reader {
         version: 0x20400,
+        hash_type: CS_HASHTYPE_SHA256,
         flags: 0x2_0000,
         platform: 6,
         page_shift: 14,
@@ -82,6 +89,7 @@ const READERS: [Reader; 9] = [
     },
     Reader {
         version: 0x20600,
+        hash_type: CS_HASHTYPE_SHA256,
         flags: 0x3_1300,
         platform: 255,
         page_shift: 12,
@@ -94,6 +102,7 @@ const READERS: [Reader; 9] = [
     },
     Reader {
         version: 0x20301,
+        hash_type: CS_HASHTYPE_SHA256,
         flags: 0x500,
         platform: 3,
         page_shift: 0,
@@ -106,6 +115,7 @@ const READERS: [Reader; 9] = [
     },
     Reader {
         version: 0x20300,
+        hash_type: CS_HASHTYPE_SHA256,
         flags: 0x1100,
         platform: 5,
         page_shift: 12,
@@ -118,6 +128,7 @@ const READERS: [Reader; 9] = [
     },
     Reader {
         version: 0x20500,
+        hash_type: CS_HASHTYPE_SHA256,
         flags: 0x2202,
         platform: 9,
         page_shift: 0,
@@ -130,6 +141,7 @@ const READERS: [Reader; 9] = [
     },
     Reader {
         version: 0x205FF,
+        hash_type: CS_HASHTYPE_SHA256,
         flags: 0x800,
         platform: 4,
         page_shift: 0,
@@ -138,6 +150,45 @@ const READERS: [Reader; 9] = [
         code_limit64: 0x4_0000_0000,
         identifier: 26,
         kinds: &[0, 0x10000, 10],
+        position: 2,
+    },
+    Reader {
+        version: 0x200FF,
+        hash_type: CS_HASHTYPE_SHA1,
+        flags: 0x1_2000,
+        platform: 8,
+        page_shift: 12,
+        special: 2,
+        code_limit: 7 * 4096 - 5,
+        code_limit64: 0,
+        identifier: 15,
+        kinds: &[5, 0, 2, 7],
+        position: 2,
+    },
+    Reader {
+        version: 0x20201,
+        hash_type: CS_HASHTYPE_SHA256_TRUNCATED,
+        flags: 0x1302,
+        platform: 90,
+        page_shift: 14,
+        special: 11,
+        code_limit: 5 * 16384 + 3,
+        code_limit64: 0,
+        identifier: 33,
+        kinds: &[0, 8, 0x10000],
+        position: 1,
+    },
+    Reader {
+        version: 0x204FF,
+        hash_type: CS_HASHTYPE_SHA384,
+        flags: 0x402,
+        platform: 2,
+        page_shift: 12,
+        special: 7,
+        code_limit: 1,
+        code_limit64: 9 * 4096 + 1,
+        identifier: 28,
+        kinds: &[2, 0x1000, 11, 0],
         position: 2,
     },
 ];
@@ -152,18 +203,18 @@ impl Reader {
     }
 
     fn directory(&self) -> DirectoryPlan {
-        let mut plan = DirectoryPlan::new(self.version);
+        let mut plan = DirectoryPlan::of_kind(self.version, self.hash_type);
         plan.flags = self.flags;
         plan.platform = self.platform;
         plan.page_shift = self.page_shift;
         (plan.code_limit, plan.code_limit64) = (self.code_limit, self.code_limit64);
         plan.identifier = vec![b'r'; self.identifier];
-        plan.special = vec![[0xA5; 32]; self.special];
+        plan.special = vec![vec![0xA5; width(self.hash_type)]; self.special];
         let pages = match self.page_shift {
             0 => 1,
             shift => self.limit().div_ceil(1 << shift),
         };
-        plan.code = vec![[0xC7; 32]; pages as usize];
+        plan.code = vec![vec![0xC7; width(self.hash_type)]; pages as usize];
         plan
     }
 
@@ -174,8 +225,7 @@ impl Reader {
             _ => (kind, blob_of(kind, &vec![0xB0; 3 + 5 * position])),
         };
         let plan = SignaturePlan::new(self.kinds.iter().enumerate().map(blob).collect());
-        let head = head_size(self.version.into()).expect("a version that passes");
-        Subject::new(plan, head as u32, self.special as u32)
+        Subject::new(plan, &self.directory())
     }
 
     /// Whether its version has what the test looks at.

@@ -2,12 +2,14 @@
 
 use std::collections::HashSet;
 
-use reference::make::{blob_of, DirectoryPlan, SignaturePlan};
+use reference::kinds::CS_HASHTYPE_SHA256;
+use reference::make::{blob_of, width, DirectoryPlan, SignaturePlan, Slot};
 
 use crate::case::{operation, Case, SIGNATURE, TYPES};
 
 mod directory;
 pub mod faults;
+mod kinds;
 mod limits;
 mod order;
 mod random;
@@ -52,6 +54,7 @@ pub fn cases() -> Vec<Named> {
     limits::add(&mut cases);
     order::add(&mut cases);
     random::add(&mut cases);
+    kinds::add(&mut cases);
     cases.list
 }
 
@@ -69,17 +72,27 @@ pub fn looked_up(named: Named, types: &[u32]) -> Case {
 
 /// Slots of one repeated byte each, never zero: no test up to 18 looks into a slot, but
 /// an identifier's zero byte must not be found in one by chance.
-fn slots(first: u8, count: usize) -> Vec<[u8; 32]> {
-    (0..count).map(|i| [first.wrapping_add(i as u8) | 0x80; 32]).collect()
+fn slots_of(kind: u8, first: u8, count: usize) -> Vec<Slot> {
+    (0..count).map(|i| vec![first.wrapping_add(i as u8) | 0x80; width(kind)]).collect()
 }
 
-/// A well-formed directory with one page and this many special slots.
-fn one_page(version: u32, special: usize) -> DirectoryPlan {
-    let mut plan = DirectoryPlan::new(version);
+/// The same of SHA-256.
+fn slots(first: u8, count: usize) -> Vec<Slot> {
+    slots_of(CS_HASHTYPE_SHA256, first, count)
+}
+
+/// A well-formed directory with one page of 4,096 bytes and this many special slots.
+fn one_page_of(kind: u8, version: u32, special: usize) -> DirectoryPlan {
+    let mut plan = DirectoryPlan::of_kind(version, kind);
     plan.code_limit = 4096;
-    plan.special = slots(0xA0, special);
-    plan.code = slots(0xC0, 1);
+    plan.special = slots_of(kind, 0xA0, special);
+    plan.code = slots_of(kind, 0xC0, 1);
     plan
+}
+
+/// The same of SHA-256.
+fn one_page(version: u32, special: usize) -> DirectoryPlan {
+    one_page_of(CS_HASHTYPE_SHA256, version, special)
 }
 
 /// A signature of one blob, the directory, which starts at 20.

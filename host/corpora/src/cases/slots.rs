@@ -1,12 +1,14 @@
 //! Cases for tests 21 to 23, on signatures that mostly pass 1 to 18.
 
+use reference::kinds::{digest, CS_HASHTYPE_SHA256};
 use reference::launch::Launch;
-use reference::make::{blob_of, DirectoryPlan, SignaturePlan, Slot};
+use reference::make::{blob_of, width, DirectoryPlan, SignaturePlan, Slot};
 use reference::random::Random;
-use reference::sha256::digest;
 
 use super::{facts, SideFile};
 use crate::case::{operation, Case, FACTS, INFO, RESOURCES, SIGNATURE};
+
+mod kinds;
 
 const SEED: u64 = 0x736C_6F74_7300_0001;
 const RANDOM_CASES: usize = 120;
@@ -24,6 +26,8 @@ enum State {
     WithoutHead,
     /// Zeros but for this byte.
     Almost(usize),
+    /// The digest by another kind, cut or filled with zeros to the width.
+    ByKind(u8),
 }
 
 impl State {
@@ -34,6 +38,7 @@ impl State {
             State::Wrong(at) => format!("wrong at {at}"),
             State::WithoutHead => "of the thing's contents".to_string(),
             State::Almost(at) => format!("zeros but {at}"),
+            State::ByKind(kind) => format!("by kind {kind}"),
         }
     }
 }
@@ -50,6 +55,7 @@ fn thing(there: bool) -> &'static str {
 /// The things that are there and the states of slots 1 to `special`.
 #[derive(Clone)]
 struct Plan {
+    kind: u8,
     there: [bool; 12],
     info: Vec<u8>,
     resources: Vec<u8>,
@@ -58,14 +64,15 @@ struct Plan {
 }
 
 impl Plan {
-    /// Everything there and right.
+    /// Everything there and right, by SHA-256.
     fn full() -> Plan {
         let mut states = [State::Right; 12];
         let mut there = [true; 12];
         for k in [0, 4, 6] {
             (states[k], there[k]) = (State::Empty, false);
         }
-        Plan { there, info: b"info".to_vec(), resources: b"files".to_vec(), states, special: 11 }
+        let (info, resources) = (b"info".to_vec(), b"files".to_vec());
+        Plan { kind: CS_HASHTYPE_SHA256, there, info, resources, states, special: 11 }
     }
 
     /// Nothing there and every slot empty.
@@ -83,25 +90,22 @@ impl Plan {
     }
 
     fn slot(&self, k: usize) -> Slot {
-        let mut right = digest(&self.thing(k));
-        match self.states[k] {
-            State::Empty => [0; 32],
-            State::Right => right,
-            State::Wrong(at) => {
-                right[at] ^= 1;
-                right
-            }
-            State::WithoutHead => digest(self.thing(k).get(8..).unwrap_or(&[])),
-            State::Almost(at) => {
-                let mut slot = [0; 32];
-                slot[at] = 1;
-                slot
-            }
+        let (kind, thing) = (u64::from(self.kind), self.thing(k));
+        let mut slot = match self.states[k] {
+            State::Empty | State::Almost(_) => Vec::new(),
+            State::Right | State::Wrong(_) => digest(kind, &thing),
+            State::WithoutHead => digest(kind, thing.get(8..).unwrap_or(&[])),
+            State::ByKind(other) => digest(u64::from(other), &thing),
+        };
+        slot.resize(width(self.kind), 0);
+        if let State::Wrong(at) | State::Almost(at) = self.states[k] {
+            slot[at] ^= 1;
         }
+        slot
     }
 
     fn signature(&self) -> Vec<u8> {
-        let mut directory = DirectoryPlan::new(0x20400);
+        let mut directory = DirectoryPlan::of_kind(0x20400, self.kind);
         directory.special = (1..=self.special).map(|k| self.slot(k)).collect();
         let mut blobs = vec![(0, directory.bytes())];
         let there = BLOBS.iter().filter(|&&k| self.there[k]);
@@ -144,6 +148,7 @@ pub fn corpus() -> Vec<Case> {
     random_plans(&mut cases);
     refused_before(&mut cases);
     empty_requirements(&mut cases);
+    kinds::add(&mut cases);
     cases
 }
 
@@ -256,12 +261,14 @@ fn empty_requirements(cases: &mut Vec<Case>) {
     let blob = blob_of(2, &[0; 4]);
     let mut changed = blob.clone();
     changed[11] ^= 1;
+    let directory = DirectoryPlan::new(0x20400);
+    let filled = directory.digest(&blob);
     for (what, slot, blob) in [
-        ("slot filled", digest(&blob), &blob),
-        ("blob changed", digest(&blob), &changed),
-        ("slot empty", [0; 32], &blob),
+        ("slot filled", filled.clone(), &blob),
+        ("blob changed", filled, &changed),
+        ("slot empty", directory.empty(), &blob),
     ] {
-        let directory = DirectoryPlan::new(0x20400).with_special(2, slot);
+        let directory = directory.clone().with_special(2, slot);
         let signature = SignaturePlan::new(vec![(0, directory.bytes()), (2, blob.clone())]);
         let name = format!("empty requirements, {what}");
         let (info, resources) = (SideFile::default(), SideFile::default());

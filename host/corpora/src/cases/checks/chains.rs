@@ -14,14 +14,15 @@ pub fn add(calls: &mut Vec<Call>) {
     let mut random = Random::new(SEED);
     for chain in 0..CHAINS {
         let plan = some_plan(&mut random);
-        one_chain(calls, &format!("chain {chain}"), plan, &mut random);
+        one_chain(calls, &format!("chain {chain}"), plan, CHAIN_LENGTH, &mut random);
     }
     // The code limit is codeLimit64, and codeLimit says something else.
     for limit in [0, 1, 5000, u32::MAX] {
         let mut plan = some_plan(&mut random);
         plan.directory.code_limit64 = plan.directory.code_limit.into();
         plan.directory.code_limit = limit;
-        one_chain(calls, &format!("chain with codeLimit {limit}"), plan, &mut random);
+        let name = format!("chain with codeLimit {limit}");
+        one_chain(calls, &name, plan, CHAIN_LENGTH, &mut random);
     }
 }
 
@@ -30,12 +31,19 @@ fn some_plan(random: &mut Random) -> InputsPlan {
     InputsPlan::new(0x20500, striped(length), shift)
 }
 
-fn one_chain(calls: &mut Vec<Call>, name: &str, plan: InputsPlan, random: &mut Random) {
+/// A whole check of a damaged image and so many rechecks.
+pub fn one_chain(
+    calls: &mut Vec<Call>,
+    name: &str,
+    plan: InputsPlan,
+    rechecks: usize,
+    random: &mut Random,
+) {
     let mut inputs = plan.build();
     let signed = inputs.image.clone();
     inputs.image[random.below(signed.len() as u64) as usize] ^= 1;
     calls.push(Call::whole(format!("{name}, whole check"), &inputs, 4));
-    for call in 0..CHAIN_LENGTH {
+    for call in 0..rechecks {
         let name = format!("{name}, call {call}");
         calls.push(next_in_chain(name, &mut inputs, &signed, random));
     }

@@ -1,7 +1,10 @@
 //! Faults in a good signature: one for each of tests 1 to 18.
 
 use reference::directory::MOST_CODE_LIMIT;
-use reference::make::{put32, put64, BlobPlan, SignaturePlan};
+use reference::kinds::{
+    CS_HASHTYPE_SHA1, CS_HASHTYPE_SHA256, CS_HASHTYPE_SHA256_TRUNCATED, CS_HASHTYPE_SHA384,
+};
+use reference::make::{put32, put64, BlobPlan, DirectoryPlan, SignaturePlan};
 
 /// Tests 1 to 18, in the order in which they are made.
 pub const TESTS: [u32; 20] =
@@ -11,17 +14,32 @@ pub const TESTS: [u32; 20] =
 pub struct Subject {
     plan: SignaturePlan,
     directory: usize,
-    /// The directory's head size and special slots.
+    /// The directory's head size, and the lowest hashOffset that leaves room for its special slots.
     head: u32,
-    special: u32,
+    lowest: u32,
+    /// A hash type that has not the directory's hashSize.
+    other_type: u8,
+}
+
+/// A kind that is not as wide, another one for each.
+fn other_width(kind: u8) -> u8 {
+    match kind {
+        CS_HASHTYPE_SHA1 => CS_HASHTYPE_SHA256,
+        CS_HASHTYPE_SHA256 => CS_HASHTYPE_SHA1,
+        CS_HASHTYPE_SHA256_TRUNCATED => CS_HASHTYPE_SHA384,
+        _ => CS_HASHTYPE_SHA256_TRUNCATED,
+    }
 }
 
 impl Subject {
-    /// The directory of the plan has this head size and so many special slots.
-    pub fn new(plan: SignaturePlan, head: u32, special: u32) -> Subject {
+    /// A signature and the plan of its directory.
+    pub fn new(plan: SignaturePlan, built: &DirectoryPlan) -> Subject {
         let is_directory = |blob: &BlobPlan| blob.kind == 0;
         let directory = plan.blobs.iter().position(is_directory).expect("a blob of type 0");
-        Subject { plan, directory, head, special }
+        let special: usize = built.special.iter().map(Vec::len).sum();
+        let head = built.head() as u32;
+        let lowest = head + special as u32;
+        Subject { plan, directory, head, lowest, other_type: other_width(built.kind) }
     }
 
     pub fn bytes(&self) -> Vec<u8> {
@@ -48,13 +66,13 @@ impl Subject {
             10 => put32(bytes, 12 + 8 * self.directory, 0x1001),
             11 => put32(bytes, directory + 8, 0x20601),
             12 => put32(bytes, directory + 4, self.head - 1),
-            13 => bytes[directory + 37] = 1,
+            13 => bytes[directory + 37] = self.other_type,
             14 => bytes[directory + 39] = 13,
             46 => put32(bytes, directory + 12, 0x33F03),
             15 => put64(bytes, directory + 56, MOST_CODE_LIMIT + 1),
             35 => bytes[directory + 47] = 1,
             16 => put32(bytes, directory + 24, 12),
-            17 => put32(bytes, directory + 16, self.head + 32 * self.special - 1),
+            17 => put32(bytes, directory + 16, self.lowest - 1),
             18 => put32(bytes, directory + 20, self.head - 1),
             _ => unreachable!("no such fault"),
         }

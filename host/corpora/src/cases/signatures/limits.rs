@@ -91,7 +91,7 @@ fn many_slots(cases: &mut Cases) {
         (14, (many << 14) + 1, many + 1),
     ] {
         let mut plan = with_limit(limit, shift, 0);
-        plan.code = vec![[0xC7; 32]; count as usize];
+        plan.code = vec![vec![0xC7; 32]; count as usize];
         add_limit(cases, &plan);
     }
     // Right by the arithmetic, and without the slots.

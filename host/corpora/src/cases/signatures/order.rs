@@ -1,19 +1,26 @@
 //! Cases with two faults: the order of the tests decides, and one test runs over all
 //! positions before the next.
 
-use super::faults::{Subject, TESTS};
-use super::{one_page, signature_of, Cases};
+use reference::kinds::CS_HASHTYPE_SHA256;
 
-/// A good signature of five blobs, the directory in the middle.
-fn base() -> Subject {
-    let directory = one_page(0x20400, 2);
+use super::faults::{Subject, TESTS};
+use super::{one_page_of, signature_of, Cases};
+
+/// A good signature of five blobs, the directory of a hash kind in the middle.
+pub fn base_of(kind: u8) -> Subject {
+    let directory = one_page_of(kind, 0x20400, 2);
     let mut plan = signature_of(&[2, 5, 0, 7, 0x1000]);
     plan.blobs[DIRECTORY].bytes = directory.bytes();
-    Subject::new(plan, directory.head() as u32, 2)
+    Subject::new(plan, &directory)
 }
 
-/// The position of the directory in `base`.
-const DIRECTORY: usize = 2;
+/// The same of SHA-256.
+fn base() -> Subject {
+    base_of(CS_HASHTYPE_SHA256)
+}
+
+/// The position of the directory in `base_of`.
+pub const DIRECTORY: usize = 2;
 
 pub fn add(cases: &mut Cases) {
     cases.add("five blobs", base().bytes());
