@@ -10,7 +10,7 @@ use reference::random::Random;
 
 /// A number near another: a few up or down, or one that borders on something.
 fn near(number: u32, random: &mut Random) -> u32 {
-    let step = *random.pick(&[1, 1, 2, 8, 32, 33, 64, 256, 4096]);
+    let step = *random.pick(&[1, 1, 2, 8, 20, 32, 33, 48, 64, 256, 4096]);
     match random.below(5) {
         0 => *random.pick(&[0, 1, 0x7FFFFFFF, 0x80000000, 0xFFFFFFF7, 0xFFFFFFF8, 0xFFFFFFFF]),
         1 | 2 => number.wrapping_add(step),

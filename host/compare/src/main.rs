@@ -36,6 +36,12 @@ fn table(counts: &Counts) -> String {
     out
 }
 
+/// How many cases there were of each hash kind.
+fn kinds(counts: &Counts) -> String {
+    let of = |(kind, cases): (&u8, &u64)| format!("{cases} of kind {kind}");
+    format!("cases: {}", counts.kinds.iter().map(of).collect::<Vec<_>>().join(", "))
+}
+
 fn differs(difference: &Difference) -> String {
     let kept = match difference.keep(Path::new(".")) {
         Ok(path) => format!("the input is kept in {}", path.display()),
@@ -53,6 +59,7 @@ fn compare(arguments: &Arguments) -> Result<(), String> {
     };
     let counts = counts.map_err(|difference| differs(&difference))?;
     print!("{}", table(&counts));
+    println!("{}", kinds(&counts));
     let cases = arguments.only.map_or(arguments.cases, |_| 1);
     println!(
         "{cases} cases of seed {}, {} calls of each: all agree ({:.1} s)",

@@ -2,6 +2,9 @@
 
 use reference::directory::CS_ALLOWED_MACHO;
 use reference::inputs::{InputsPlan, SYSTEM_SERVICE};
+use reference::kinds::{
+    CS_HASHTYPE_SHA1, CS_HASHTYPE_SHA256, CS_HASHTYPE_SHA256_TRUNCATED, CS_HASHTYPE_SHA384,
+};
 use reference::make::blob_of;
 use reference::random::Random;
 
@@ -10,9 +13,20 @@ const VERSIONS: [u32; 12] = [
     0x205FF, 0x20600,
 ];
 
-/// Lengths at the ends of hash blocks and of pages.
-const LENGTHS: [usize; 16] =
-    [0, 1, 55, 56, 63, 64, 4095, 4096, 4097, 8192, 8193, 12289, 16383, 16384, 16385, 20480];
+/// Lengths at the ends of hash blocks of both sizes and of pages.
+const LENGTHS: [usize; 20] = [
+    0, 1, 55, 56, 63, 64, 111, 112, 127, 128, 4095, 4096, 4097, 8192, 8193, 12289, 16383, 16384,
+    16385, 20480,
+];
+
+/// Hash kinds: SHA-256 is the common one.
+const KINDS: [u8; 5] = [
+    CS_HASHTYPE_SHA1,
+    CS_HASHTYPE_SHA256,
+    CS_HASHTYPE_SHA256,
+    CS_HASHTYPE_SHA256_TRUNCATED,
+    CS_HASHTYPE_SHA384,
+];
 
 /// The types of blobs beside the directory.
 pub const OTHERS: [u32; 13] =
@@ -54,9 +68,9 @@ fn hash(random: &mut Random) -> [u8; 20] {
 }
 
 pub fn good(random: &mut Random) -> InputsPlan {
-    let version = *random.pick(&VERSIONS);
+    let (version, kind) = (*random.pick(&VERSIONS), *random.pick(&KINDS));
     let image = image(random);
-    let mut plan = InputsPlan::new(version, image, *random.pick(&[12, 12, 14, 0]));
+    let mut plan = InputsPlan::of_kind(kind, version, image, *random.pick(&[12, 12, 14, 0]));
     plan.directory.flags = random.number() as u32 & CS_ALLOWED_MACHO as u32;
     plan.directory.platform = random.byte();
     plan.directory.identifier = some_bytes(30, random).into_iter().map(|b| b | 1).collect();

@@ -21,6 +21,8 @@ const LOOKED_UP: [u32; 19] =
 pub struct Counts {
     pub checks: BTreeMap<u32, u64>,
     pub rechecks: BTreeMap<u32, u64>,
+    /// Cases by the hash kind of their directory.
+    pub kinds: BTreeMap<u8, u64>,
     pub calls: u64,
 }
 
@@ -83,6 +85,7 @@ impl Run {
         self.case = case;
         let mut random = random_of(self.seed, case);
         let scene = Scene::new(&mut random);
+        *self.counts.kinds.entry(scene.kind).or_default() += 1;
         self.signature(&scene.inputs.signature, &mut random);
         let (said, answer, marks) = calls::check(&scene.inputs, &scene.marks);
         *self.counts.checks.entry(answer.number).or_default() += 1;

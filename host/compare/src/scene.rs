@@ -20,6 +20,8 @@ impl Draft {
 }
 
 pub struct Scene {
+    /// The hash kind of the directory before damage.
+    pub kind: u8,
     /// What the whole check is lent.
     pub inputs: Inputs,
     /// The marks before the whole check.
@@ -40,7 +42,7 @@ impl Scene {
     /// A good case with no damage or up to three.
     pub fn new(random: &mut Random) -> Scene {
         let mut plan = plan::good(random);
-        let signed = plan.image.clone();
+        let (kind, signed) = (plan.directory.kind, plan.image.clone());
         let damages = *random.pick(&[0, 0, 1, 1, 1, 1, 1, 2, 2, 3]);
         let levels: Vec<u64> = (0..damages).map(|_| random.below(4)).collect();
         let at = |level: u64| levels.iter().filter(|&&l| l == level).count();
@@ -52,6 +54,6 @@ impl Scene {
         draft.inputs.cache = draft.cache.bytes();
         (0..at(3)).for_each(|_| damage::bytes::damage(&mut draft.inputs, random));
         let marks = random.bytes(draft.inputs.pages);
-        Scene { inputs: draft.inputs, marks, signed }
+        Scene { kind, inputs: draft.inputs, marks, signed }
     }
 }

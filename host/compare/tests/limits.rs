@@ -3,7 +3,8 @@
 use compare::{facts, fields};
 use reference::directory::{self, MOST_CODE_SLOTS};
 use reference::inputs::{Inputs, InputsPlan};
-use reference::make::{blob_of, DirectoryPlan, SignaturePlan};
+use reference::kinds::{CS_HASHTYPE_SHA256, CS_HASHTYPE_SHA384};
+use reference::make::{blob_of, width, DirectoryPlan, SignaturePlan};
 use reference::superblob::{find, MOST_SIDE_FILE, MOST_SIGNATURE};
 use trewizlow::{Lent, MOST_PAGES, MOST_SIDE_FILE_BYTES, MOST_SIGNATURE_BYTES};
 
@@ -79,24 +80,25 @@ fn longest_identifiers() {
     }
 }
 
-/// A directory with so many slots, and a code limit that wants as many.
-fn with_slots(count: u64, page_shift: u8) -> Inputs {
-    let mut plan = InputsPlan::new(0x20400, Vec::new(), page_shift);
+/// A directory with so many slots of a kind, and a code limit that wants as many.
+fn with_slots(kind: u8, count: u64, page_shift: u8) -> Inputs {
+    let mut plan = InputsPlan::of_kind(kind, 0x20400, Vec::new(), page_shift);
     plan.directory.code_limit64 = count << page_shift;
-    plan.directory.code = vec![[0xC7; 32]; count as usize];
+    plan.directory.code = vec![vec![0xC7; width(kind)]; count as usize];
     plan.build()
 }
 
-/// 1,048,576 slots pass test 16 in pages of both sizes, and the image is then too short; one more
-/// does not.
+/// 1,048,576 slots pass test 16 in pages of both sizes, of the widest kind too, and the image is
+/// then too short; one more does not.
 #[test]
 fn most_slots() {
-    for shift in [12, 14] {
-        let most = with_slots(MOST_CODE_SLOTS, shift);
+    let (common, widest) = (CS_HASHTYPE_SHA256, CS_HASHTYPE_SHA384);
+    for (kind, shift) in [(common, 12), (common, 14), (widest, 12)] {
+        let most = with_slots(kind, MOST_CODE_SLOTS, shift);
         assert_eq!(read(&most.signature), (0, 0));
         assert_eq!(check(&most), (19, 0));
     }
-    let more = with_slots(MOST_CODE_SLOTS + 1, 12);
+    let more = with_slots(common, MOST_CODE_SLOTS + 1, 12);
     assert_eq!(read(&more.signature), (16, 0));
     assert_eq!(check(&more), (16, 0));
 }

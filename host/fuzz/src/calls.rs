@@ -45,14 +45,18 @@ pub fn compare(cut: &Cut) -> u32 {
     reference.number()
 }
 
-/// The cache, its first entry with the directory's hash where the input asks for that.
+/// The cache, its first entry with the directory's hash, and with its type, where the input asks
+/// for that.
 fn listed_cache(cut: &Cut) -> Vec<u8> {
     let mut cache = cut.cache.to_vec();
     let first = reference::cache::HEAD as usize;
     if let (true, Ok(directory)) = (cut.listed, directory::read(cut.signature, false)) {
-        let hash = directory.cdhash();
-        if let Some(entry) = cache.get_mut(first..first + hash.len()) {
-            entry.copy_from_slice(&hash);
+        let mut listed = directory.cdhash().to_vec();
+        if cut.typed {
+            listed.push(directory.hash_type() as u8);
+        }
+        if let Some(entry) = cache.get_mut(first..first + listed.len()) {
+            entry.copy_from_slice(&listed);
         }
     }
     cache

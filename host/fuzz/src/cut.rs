@@ -37,6 +37,7 @@ const ON_AUTHORIZED_VOLUME: u8 = 4;
 const ON_SYSTEM_VOLUME: u8 = 8;
 const PARENT_IS_INIT: u8 = 16;
 const LISTED: u8 = 32;
+const TYPED: u8 = 64;
 
 #[derive(Clone, Copy, Debug)]
 pub struct Cut<'a> {
@@ -45,6 +46,8 @@ pub struct Cut<'a> {
     /// The cache's first entry gets the directory's hash before the call, which no change of
     /// the input would hit upon.
     pub listed: bool,
+    /// It gets the directory's hash type too.
+    pub typed: bool,
     pub kind: u32,
     pub start: u64,
     pub length: u64,
@@ -68,6 +71,7 @@ impl<'a> Cut<'a> {
             operation,
             launch: Launch::default(),
             listed: false,
+            typed: false,
             kind: 0,
             start: 0,
             length: 0,
@@ -101,6 +105,7 @@ impl<'a> Cut<'a> {
                 parent_is_init: flag(PARENT_IS_INIT),
             },
             listed: flag(LISTED),
+            typed: flag(TYPED),
             kind: u32::from_le_bytes(array(&head, 4)),
             start: u64::from_le_bytes(array(&head, 8)),
             length: u64::from_le_bytes(array(&head, 16)),
@@ -121,6 +126,7 @@ impl<'a> Cut<'a> {
             (self.launch.on_system_volume, ON_SYSTEM_VOLUME),
             (self.launch.parent_is_init, PARENT_IS_INIT),
             (self.listed, LISTED),
+            (self.typed, TYPED),
         ];
         flags.iter().filter(|(set, _)| *set).map(|(_, flag)| flag).sum()
     }

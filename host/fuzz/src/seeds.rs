@@ -7,6 +7,7 @@ use corpora::cases::checks::{self, Call, Kind};
 use corpora::cases::{readers, signatures};
 use reference::bytes::be32;
 use reference::inputs::Inputs;
+use reference::kinds::KINDS;
 use reference::superblob;
 
 use crate::cut::{Cut, Operation};
@@ -94,23 +95,24 @@ fn of_signatures() -> Vec<Seed> {
 /// One version for each size of the directory's head.
 const VERSIONS: [u32; 7] = [0x20001, 0x20100, 0x20200, 0x20300, 0x20400, 0x20500, 0x20600];
 
-/// Everything that can be there is there, under a version, alone in its cache.
-fn full(version: u32) -> Inputs {
-    let mut plan = checks::full();
+/// Everything that can be there is there, under a version and a hash kind, alone in its cache.
+fn full(version: u32, kind: u8) -> Inputs {
+    let mut plan = checks::full_of(kind);
     plan.directory.version = version;
     plan.neighbours.clear();
     plan.build()
 }
 
-/// Accepted calls under each version: a whole check whose directory stays listed when the
-/// signature is changed, which no corpus has, and a recheck of the whole image.
-fn of_version(version: u32) -> Vec<Seed> {
-    let inputs = full(version);
+/// Accepted calls under a version and a hash kind: a whole check whose directory stays listed when
+/// the signature is changed, which no corpus has, and a recheck of the whole image.
+fn of_version(version: u32, kind: u8) -> Vec<Seed> {
+    let inputs = full(version, kind);
     let marks = vec![0; inputs.pages];
     let (image, marks) = (&inputs.image[..], &marks[..]);
     let check = Cut {
         launch: inputs.launch,
         listed: true,
+        typed: true,
         image,
         cache: &inputs.cache,
         info: inputs.info.as_deref(),
@@ -121,11 +123,12 @@ fn of_version(version: u32) -> Vec<Seed> {
     let length = image.len() as u64;
     let recheck = Cut { image, length, marks, ..Cut::new(Operation::Recheck, &inputs.signature) };
     let calls = [("listed check", check), ("whole recheck", recheck)];
-    let seeds = calls.iter().map(|(what, cut)| seed(&format!("{version:x}, {what}"), 0, cut));
-    seeds.flatten().collect()
+    let name = |what| format!("{version:x}, kind {kind}, {what}");
+    calls.iter().filter_map(|(what, cut)| seed(&name(what), 0, cut)).collect()
 }
 
 pub fn seeds() -> Vec<Seed> {
-    let versions = VERSIONS.into_iter().flat_map(of_version);
+    let pairs = VERSIONS.into_iter().flat_map(|version| KINDS.map(|kind| (version, kind)));
+    let versions = pairs.flat_map(|(version, kind)| of_version(version, kind));
     of_checks().into_iter().chain(of_signatures()).chain(versions).collect()
 }

@@ -57,7 +57,7 @@ fn hash_changed(plan: &mut CachePlan, random: &mut Random) {
 
 /// Of every entry, as the one that lists the directory is among them.
 fn hash_type(plan: &mut CachePlan, random: &mut Random) {
-    let hash_type = *random.pick(&[0, 1, 3, 130, 255]);
+    let hash_type = *random.pick(&[0, 1, 2, 3, 4, 5, 130, 255]);
     plan.entries.iter_mut().for_each(|entry| entry.hash_type = hash_type);
 }
 

@@ -6,9 +6,8 @@ use std::time::Instant;
 use compare::facts;
 use reference::answer::Answer;
 use reference::inputs::{Inputs, InputsPlan};
-use reference::make::DirectoryPlan;
+use reference::make::{DirectoryPlan, Slot};
 use reference::recheck::Range;
-use reference::sha256::digest;
 use trewizlow::{check, recheck, Lent};
 
 /// The first number that has no room in 32 bits.
@@ -32,7 +31,7 @@ impl Scene {
         plan.directory = DirectoryPlan {
             code_limit: u32::try_from(length).unwrap_or(u32::MAX),
             code_limit64: length,
-            code: slots(&image, page as usize, ones),
+            code: slots(&plan.directory, &image, page as usize, ones),
             ..plan.directory
         };
         let inputs = Inputs { image, ..plan.build() };
@@ -108,7 +107,8 @@ impl Scene {
 }
 
 /// The digests of the pages: one for all of zeros, and one for each that has a 1 or is short.
-fn slots(image: &[u8], page: usize, ones: &[u64]) -> Vec<[u8; 32]> {
+fn slots(plan: &DirectoryPlan, image: &[u8], page: usize, ones: &[u64]) -> Vec<Slot> {
+    let digest = |part: &[u8]| plan.digest(part);
     let count = image.len().div_ceil(page);
     if count == 1 {
         return vec![timed("reference's digest", || digest(image))];
