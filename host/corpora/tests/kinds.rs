@@ -120,6 +120,8 @@ fn checks() {
     let lines = lines_of("checks");
     for kind in KINDS {
         let said = |what: &str| answered(lines, &format!("check, kind {kind}, {what}"));
+        assert_eq!(said("slot 4 zeros but its last byte"), "21 4");
+        assert_eq!(said("slot 5 of zeros"), "23 5");
         assert_eq!(said("code slot 1 wrong at 0"), "31 1");
         assert_eq!(said("code slot 2 wrong in its last byte"), "31 2");
         assert_eq!(said("code slot 2 of zeros"), "31 2");

@@ -24,6 +24,7 @@ pub fn add(calls: &mut Vec<Call>) {
         widths(calls, kind);
         pages_by_other_kinds(calls, kind);
         things_by_other_kinds(calls, kind);
+        special_slots(calls, kind);
         code_slots(calls, kind);
         entries(calls, kind);
         hashes_by_other_kinds(calls, kind);
@@ -126,6 +127,14 @@ fn things_by_other_kinds(calls: &mut Vec<Call>, kind: u8) {
             });
         }
     }
+}
+
+/// A slot that is zero but for its last byte, where nothing can be there, and one of zeros.
+fn special_slots(calls: &mut Vec<Call>, kind: u8) {
+    let name = format!("check, kind {kind}, slot 4 zeros but its last byte");
+    changed(calls, name, kind, |p| p.directory.special[3][width(kind) - 1] = 1);
+    let name = format!("check, kind {kind}, slot 5 of zeros");
+    changed(calls, name, kind, |p| p.directory.special[4].fill(0));
 }
 
 /// Code slots that differ in one byte, about the ends of all widths, and one of zeros.
