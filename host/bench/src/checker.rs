@@ -61,7 +61,7 @@ fn test<'a>(lent: &Lent<'a>, marks: usize) -> Tested<(Directory<'a>, usize)> {
         return refuse(20);
     }
     slots::test(&index, &directory, lent.info_plist, lent.code_resources)?;
-    let (entry, category) = cache::find(lent.cache, &directory.cdhash())?;
+    let (entry, category) = cache::find(lent.cache, directory.kind, &directory.cdhash())?;
     launch_test(category, &lent.launch)?;
     Ok((directory, entry))
 }
@@ -98,7 +98,7 @@ fn recheck_test<'a>(
     if pages != pages::bytes_of(&directory, &met) {
         return refuse(33);
     }
-    if let Some(page) = marks.iter().position(|&mark| mark > 1) {
+    if let Some(page) = pages::lowest_unmarked(marks) {
         return refuse_at(34, page);
     }
     Ok((directory, met))

@@ -1,4 +1,4 @@
-//! What the benchmarks share: a straightforward Rust SHA-256 and checker, and timing.
+//! What the benchmarks share: straightforward Rust hashes, a checker over them, and timing.
 
 pub mod arguments;
 pub mod buffer;

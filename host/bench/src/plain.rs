@@ -1,75 +1,65 @@
-//! A straightforward SHA-256 in Rust: scalar, no processor hash instructions. It is what
-//! the proved code is measured against.
+//! Straightforward hashes in Rust: scalar, no processor hash instructions. They are what the
+//! proved code is measured against.
 
-const K: [u32; 64] = [
-    0x428a2f98, 0x71374491, 0xb5c0fbcf, 0xe9b5dba5, 0x3956c25b, 0x59f111f1, 0x923f82a4, 0xab1c5ed5,
-    0xd807aa98, 0x12835b01, 0x243185be, 0x550c7dc3, 0x72be5d74, 0x80deb1fe, 0x9bdc06a7, 0xc19bf174,
-    0xe49b69c1, 0xefbe4786, 0x0fc19dc6, 0x240ca1cc, 0x2de92c6f, 0x4a7484aa, 0x5cb0a9dc, 0x76f988da,
-    0x983e5152, 0xa831c66d, 0xb00327c8, 0xbf597fc7, 0xc6e00bf3, 0xd5a79147, 0x06ca6351, 0x14292967,
-    0x27b70a85, 0x2e1b2138, 0x4d2c6dfc, 0x53380d13, 0x650a7354, 0x766a0abb, 0x81c2c92e, 0x92722c85,
-    0xa2bfe8a1, 0xa81a664b, 0xc24b8b70, 0xc76c51a3, 0xd192e819, 0xd6990624, 0xf40e3585, 0x106aa070,
-    0x19a4c116, 0x1e376c08, 0x2748774c, 0x34b0bcb5, 0x391c0cb3, 0x4ed8aa4a, 0x5b9cca4f, 0x682e6ff3,
-    0x748f82ee, 0x78a5636f, 0x84c87814, 0x8cc70208, 0x90befffa, 0xa4506ceb, 0xbef9a3f7, 0xc67178f2,
-];
+mod blocks;
+mod sha1;
+mod sha256;
+mod sha384;
 
-const H0: [u32; 8] = [
-    0x6a09e667, 0xbb67ae85, 0x3c6ef372, 0xa54ff53a, 0x510e527f, 0x9b05688c, 0x1f83d9ab, 0x5be0cd19,
-];
+/// The most bytes that a digest has.
+pub const MOST: usize = 48;
 
-fn schedule(block: &[u8]) -> [u32; 64] {
-    let mut w = [0u32; 64];
-    for t in 0..16 {
-        w[t] = u32::from_be_bytes(block[4 * t..4 * t + 4].try_into().unwrap());
-    }
-    for t in 16..64 {
-        let s0 = w[t - 15].rotate_right(7) ^ w[t - 15].rotate_right(18) ^ (w[t - 15] >> 3);
-        let s1 = w[t - 2].rotate_right(17) ^ w[t - 2].rotate_right(19) ^ (w[t - 2] >> 10);
-        w[t] = s1.wrapping_add(w[t - 7]).wrapping_add(s0).wrapping_add(w[t - 16]);
-    }
-    w
+/// A hash kind by its number, a directory's hashType.
+#[derive(Clone, Copy, Debug, PartialEq, Eq)]
+pub enum Kind {
+    Sha1 = 1,
+    Sha256 = 2,
+    /// SHA-256 cut to 20 bytes.
+    Sha256Cut = 3,
+    Sha384 = 4,
 }
 
-fn compress(value: &mut [u32; 8], block: &[u8]) {
-    let w = schedule(block);
-    let [mut a, mut b, mut c, mut d, mut e, mut f, mut g, mut h] = *value;
-    for t in 0..64 {
-        let s1 = e.rotate_right(6) ^ e.rotate_right(11) ^ e.rotate_right(25);
-        let ch = (e & f) ^ (!e & g);
-        let t1 = h.wrapping_add(s1).wrapping_add(ch).wrapping_add(K[t]).wrapping_add(w[t]);
-        let s0 = a.rotate_right(2) ^ a.rotate_right(13) ^ a.rotate_right(22);
-        let maj = (a & b) ^ (a & c) ^ (b & c);
-        let t2 = s0.wrapping_add(maj);
-        h = g;
-        g = f;
-        f = e;
-        e = d.wrapping_add(t1);
-        d = c;
-        c = b;
-        b = a;
-        a = t1.wrapping_add(t2);
+impl Kind {
+    pub const ALL: [Kind; 4] = [Kind::Sha1, Kind::Sha256, Kind::Sha256Cut, Kind::Sha384];
+
+    pub fn of(number: u8) -> Option<Kind> {
+        Kind::ALL.into_iter().find(|kind| *kind as u8 == number)
     }
-    for (word, add) in value.iter_mut().zip([a, b, c, d, e, f, g, h]) {
-        *word = word.wrapping_add(add);
+
+    pub fn name(self) -> &'static str {
+        match self {
+            Kind::Sha1 => "SHA-1",
+            Kind::Sha256 => "SHA-256",
+            Kind::Sha256Cut => "SHA-256 cut",
+            Kind::Sha384 => "SHA-384",
+        }
+    }
+
+    /// The bytes of a digest, and so of a slot.
+    pub fn width(self) -> usize {
+        match self {
+            Kind::Sha1 | Kind::Sha256Cut => 20,
+            Kind::Sha256 => 32,
+            Kind::Sha384 => MOST,
+        }
+    }
+
+    /// The digest, which is written to the buffer's start. What is behind it is of no meaning.
+    pub fn digest<'a>(self, message: &[u8], buffer: &'a mut [u8; MOST]) -> &'a [u8] {
+        match self {
+            Kind::Sha1 => write(&sha1::value(message).map(u32::to_be_bytes), buffer),
+            Kind::Sha256 | Kind::Sha256Cut => {
+                write(&sha256::value(message).map(u32::to_be_bytes), buffer)
+            }
+            Kind::Sha384 => write(&sha384::value(message).map(u64::to_be_bytes), buffer),
+        }
+        &buffer[..self.width()]
     }
 }
 
-/// Hashes whole blocks where they lie; only the last one or two are copied to be padded.
-pub fn digest(message: &[u8], out: &mut [u8; 32]) {
-    let mut value = H0;
-    let mut blocks = message.chunks_exact(64);
-    for block in &mut blocks {
-        compress(&mut value, block);
-    }
-    let rest = blocks.remainder();
-    let mut last = [0u8; 128];
-    last[..rest.len()].copy_from_slice(rest);
-    last[rest.len()] = 0x80;
-    let end = if rest.len() < 56 { 64 } else { 128 };
-    last[end - 8..end].copy_from_slice(&(message.len() as u64 * 8).to_be_bytes());
-    for block in last[..end].chunks_exact(64) {
-        compress(&mut value, block);
-    }
-    for (bytes, word) in out.chunks_exact_mut(4).zip(value) {
-        bytes.copy_from_slice(&word.to_be_bytes());
+/// Writes as many words as there is room for.
+fn write<const BYTES: usize>(words: &[[u8; BYTES]], buffer: &mut [u8; MOST]) {
+    for (bytes, word) in buffer.chunks_exact_mut(BYTES).zip(words) {
+        bytes.copy_from_slice(word);
     }
 }

@@ -1,6 +1,7 @@
 //! Tests 24 to 28.
 
 use super::{refuse, refuse_at, Tested};
+use crate::plain::Kind;
 
 const HEAD: usize = 24;
 const ENTRY: usize = 24;
@@ -19,8 +20,8 @@ fn entries(cache: &[u8]) -> Tested<&[[u8; ENTRY]]> {
     Ok(cache[HEAD..].as_chunks().0)
 }
 
-/// The entry that lists the hash, and its category.
-pub fn find(cache: &[u8], cdhash: &[u8; HASH]) -> Tested<(usize, u8)> {
+/// The entry that lists the hash under its kind, and the entry's category.
+pub fn find(cache: &[u8], kind: Kind, cdhash: &[u8; HASH]) -> Tested<(usize, u8)> {
     let entries = entries(cache)?;
     if let Some(at) = entries.windows(2).position(|pair| pair[1][..HASH] <= pair[0][..HASH]) {
         return refuse_at(25, at + 1);
@@ -28,7 +29,7 @@ pub fn find(cache: &[u8], cdhash: &[u8; HASH]) -> Tested<(usize, u8)> {
     let Ok(at) = entries.binary_search_by(|entry| entry[..HASH].cmp(cdhash)) else {
         return refuse(26);
     };
-    if entries[at][20] != 2 {
+    if entries[at][20] != kind as u8 {
         return refuse_at(27, at);
     }
     let category = entries[at][22];

@@ -4,9 +4,7 @@ use trewizlow::{MOST_CODE_LIMIT, MOST_PAGES};
 
 use super::superblob::Index;
 use super::{be32, be64, refuse, Tested};
-use crate::plain;
-
-pub const SLOT: usize = 32;
+use crate::plain::{Kind, MOST};
 
 /// CS_ALLOWED_MACHO: the flags that a directory may hold.
 const ALLOWED_FLAGS: u32 = 0x33F02;
@@ -14,6 +12,7 @@ const ALLOWED_FLAGS: u32 = 0x33F02;
 /// A directory that passed, with the fields that later tests read.
 pub struct Directory<'a> {
     bytes: &'a [u8],
+    pub kind: Kind,
     hash_offset: usize,
     pub special_slots: usize,
     pub code_slots: usize,
@@ -44,8 +43,13 @@ fn code_limit(bytes: &[u8]) -> usize {
     }
 }
 
-/// Tests 10 to 15 and 35; the blob and its head's size.
-fn head<'a>(index: &Index<'a>) -> Tested<(&'a [u8], usize)> {
+/// The hash kind of hashType, where hashSize is that kind's.
+fn kind(bytes: &[u8]) -> Option<Kind> {
+    Kind::of(bytes[37]).filter(|kind| kind.width() == usize::from(bytes[36]))
+}
+
+/// Tests 10 to 15 and 35; the blob, its head's size and its hash kind.
+fn head<'a>(index: &Index<'a>) -> Tested<(&'a [u8], usize, Kind)> {
     let Some(bytes) = index.blob(0) else {
         return refuse(10);
     };
@@ -59,9 +63,9 @@ fn head<'a>(index: &Index<'a>) -> Tested<(&'a [u8], usize)> {
     if bytes.len() < head {
         return refuse(12);
     }
-    if bytes[37] != 2 || bytes[36] != 32 {
+    let Some(kind) = kind(bytes) else {
         return refuse(13);
-    }
+    };
     if !matches!(bytes[39], 0 | 12 | 14) {
         return refuse(14);
     }
@@ -74,14 +78,15 @@ fn head<'a>(index: &Index<'a>) -> Tested<(&'a [u8], usize)> {
     if version >= 0x20100 && bytes[44..48] != [0; 4] {
         return refuse(35);
     }
-    Ok((bytes, head))
+    Ok((bytes, head, kind))
 }
 
 pub fn read<'a>(index: &Index<'a>) -> Tested<Directory<'a>> {
-    let (bytes, head) = head(index)?;
+    let (bytes, head, kind) = head(index)?;
     let code_limit = code_limit(bytes);
     let directory = Directory {
         bytes,
+        kind,
         hash_offset: be32(bytes, 16) as usize,
         special_slots: be32(bytes, 24) as usize,
         code_slots: be32(bytes, 28) as usize,
@@ -109,14 +114,16 @@ impl<'a> Directory<'a> {
         if self.special_slots + self.code_slots == 0 {
             return false;
         }
-        self.hash_offset < head + SLOT * self.special_slots
-            || self.hash_offset + SLOT * self.code_slots > self.bytes.len()
+        let width = self.kind.width();
+        self.hash_offset < head + width * self.special_slots
+            || self.hash_offset + width * self.code_slots > self.bytes.len()
     }
 
     pub fn code_slots_from(&self, first: usize) -> impl Iterator<Item = &'a [u8]> {
-        let start = self.hash_offset + SLOT * first;
-        let end = self.hash_offset + SLOT * self.code_slots;
-        self.bytes[start..end].chunks_exact(SLOT)
+        let width = self.kind.width();
+        let start = self.hash_offset + width * first;
+        let end = self.hash_offset + width * self.code_slots;
+        self.bytes[start..end].chunks_exact(width)
     }
 
     /// Special slot k, from 1; none where it is empty.
@@ -124,14 +131,14 @@ impl<'a> Directory<'a> {
         if k > self.special_slots {
             return None;
         }
-        let start = self.hash_offset - SLOT * k;
-        let slot = &self.bytes[start..start + SLOT];
-        (slot != [0; SLOT]).then_some(slot)
+        let width = self.kind.width();
+        let start = self.hash_offset - width * k;
+        let slot = &self.bytes[start..start + width];
+        slot.iter().any(|&byte| byte != 0).then_some(slot)
     }
 
     pub fn cdhash(&self) -> [u8; 20] {
-        let mut hash = [0; 32];
-        plain::digest(self.bytes, &mut hash);
-        hash[..20].try_into().unwrap()
+        let mut buffer = [0; MOST];
+        self.kind.digest(self.bytes, &mut buffer)[..20].try_into().unwrap()
     }
 }

@@ -3,7 +3,7 @@
 use std::ops::Range;
 
 use super::directory::Directory;
-use crate::plain;
+use crate::plain::MOST;
 
 /// The pages that a range below the code limit meets.
 pub fn met(directory: &Directory, start: usize, end: usize) -> Range<usize> {
@@ -28,13 +28,24 @@ pub fn mark(directory: &Directory, first: usize, bytes: &[u8], marks: &mut [u8])
         return;
     }
     let pages = bytes.chunks(directory.page_size).zip(directory.code_slots_from(first));
-    let mut hash = [0; 32];
+    let mut buffer = [0; MOST];
     for ((page, slot), mark) in pages.zip(marks) {
-        plain::digest(page, &mut hash);
-        *mark = u8::from(hash != slot);
+        *mark = u8::from(directory.kind.digest(page, &mut buffer) != slot);
     }
 }
 
+/// The lowest page with such a mark. A function of its own has its loop where the
+/// alignment of functions puts it; across two cache lines the loop takes twice as long.
+#[inline(never)]
+fn lowest(marks: &[u8], is_such: impl Fn(u8) -> bool) -> Option<usize> {
+    marks.iter().position(|&mark| is_such(mark))
+}
+
 pub fn lowest_differing(marks: &[u8]) -> Option<usize> {
-    marks.iter().position(|&mark| mark == 1)
+    lowest(marks, |mark| mark == 1)
+}
+
+/// The lowest page whose mark is neither 0 nor 1.
+pub fn lowest_unmarked(marks: &[u8]) -> Option<usize> {
+    lowest(marks, |mark| mark > 1)
 }

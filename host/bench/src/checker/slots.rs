@@ -3,7 +3,7 @@
 use super::directory::Directory;
 use super::superblob::Index;
 use super::{refuse_at, Tested};
-use crate::plain;
+use crate::plain::MOST;
 
 pub fn test(
     index: &Index,
@@ -22,9 +22,7 @@ pub fn test(
             (Some(_), None) => return refuse_at(21, k),
             (None, Some(_)) => return refuse_at(23, k),
             (Some(slot), Some(thing)) => {
-                let mut hash = [0; 32];
-                plain::digest(thing, &mut hash);
-                if slot != hash {
+                if slot != directory.kind.digest(thing, &mut [0; MOST]) {
                     return refuse_at(22, k);
                 }
             }

@@ -9,6 +9,7 @@ use std::process::ExitCode;
 use bench::arguments::{self, Arguments};
 use bench::buffer::filled;
 use bench::checker;
+use bench::plain::Kind;
 use measure::{measure, Call, Measured};
 use scene::Scene;
 use trewizlow::Lent;
@@ -19,7 +20,9 @@ Checks an image of N MiB (default 200, at most 256) with the proved library and 
 straightforward Rust checker, N samples each (default 9): whole checks for each page size,
 rechecks of 1 page, 16 pages and all pages, the lookup among 65,536 cache entries, the
 sample's three pages; and at the limits a recheck of 1 page of 1,048,576, an identifier
-and a directory that fill a signature of 64 MiB. Compares answers and marks and prints
+and a directory that fill a signature of 64 MiB. All these with SHA-256; then whole checks
+with SHA-384 for each page size, with SHA-1 and with SHA-256 cut to 20 bytes for pages of
+4,096 bytes, and a recheck of 16 pages with SHA-384. Compares answers and marks and prints
 both times and their ratio. Exit status 1 where they differ.
 ";
 
@@ -27,11 +30,20 @@ both times and their ratio. Exit status 1 where they differ.
 const MOST_MIB: usize = 256;
 /// Samples of calls that take microseconds; they cost little.
 const SHORT_REPS: usize = 200;
+/// The column of what is timed.
+const WHAT: usize = 46;
+
+/// pageSize, and the pages in words.
+type Size = (u8, &'static str);
+
+const SMALL: Size = (12, "pages of 4,096 bytes");
+const LARGE: Size = (14, "pages of 16,384 bytes");
+const WHOLE: Size = (0, "one page");
 
 fn print(what: &str, times: &Measured) {
     let (library, plain) = (&times.library, &times.plain);
     println!(
-        "{what:34}  {:12.1}  {:12.1}  {:6.3}  {:12.1}  {:12.1}  {:6.3}",
+        "{what:WHAT$}  {:12.1}  {:12.1}  {:6.3}  {:12.1}  {:12.1}  {:6.3}",
         library.minima() * 1e6,
         plain.minima() * 1e6,
         library.minima() / plain.minima(),
@@ -52,7 +64,7 @@ fn whole(what: &str, scene: &Scene, image: &[u8], reps: usize) -> Result<(), Str
         let verdict = checker::check(&lent, marks);
         (verdict.number, verdict.place)
     };
-    print(what, &measure([library, plain], scene.pages, reps, 0)?);
+    print(&scene.named(what), &measure([library, plain], scene.pages, reps, 0)?);
     Ok(())
 }
 
@@ -82,7 +94,7 @@ fn recheck_from(
         let answer = checker::recheck(&scene.signature, start, length, bytes, marks);
         (answer.number, answer.place)
     };
-    print(what, &measure([library, plain], scene.pages, reps, 0)?);
+    print(&scene.named(what), &measure([library, plain], scene.pages, reps, 0)?);
     Ok(())
 }
 
@@ -96,6 +108,21 @@ fn at_the_limits(reps: usize) -> Result<(), String> {
     whole("whole check, directory 64 MiB", &Scene::longest(false), &[], reps)
 }
 
+/// The image by the kinds beside SHA-256.
+fn other_kinds(image: &[u8], reps: usize) -> Result<(), String> {
+    let check = |kind, (shift, name): Size| {
+        let scene = Scene::new(kind, image, shift);
+        whole(&format!("whole check, {name}"), &scene, image, reps).map(|()| scene)
+    };
+    check(Kind::Sha1, SMALL)?;
+    check(Kind::Sha256Cut, SMALL)?;
+    let scene = check(Kind::Sha384, SMALL)?;
+    recheck(&scene, image, 16, SHORT_REPS)?;
+    check(Kind::Sha384, LARGE)?;
+    check(Kind::Sha384, WHOLE)?;
+    Ok(())
+}
+
 fn run(arguments: &Arguments) -> Result<(), String> {
     let image = filled(arguments.mib << 20);
     let reps = arguments.reps;
@@ -104,24 +131,28 @@ fn run(arguments: &Arguments) -> Result<(), String> {
     println!("the two programs taking turns; short calls are repeated in a sample");
     println!("image: not cleared, filled with pseudo-random bytes before the first call");
     println!("marks: cleared to 0 before each sample, outside the timed part\n");
-    println!("{:34}  {:^34}  {:^34}", "", "minimum", "median");
+    println!("{:WHAT$}  {:^34}  {:^34}", "", "minimum", "median");
     let columns = format!("{:>12}  {:>12}  {:>6}", "library", "Rust", "ratio");
-    println!("{:34}  {columns}  {columns}", "");
-    for (shift, name) in
-        [(12, "pages of 4,096 bytes"), (14, "pages of 16,384 bytes"), (0, "one page")]
-    {
-        let scene = Scene::new(&image, shift);
+    println!("{:WHAT$}  {columns}  {columns}", "");
+    for (shift, name) in [SMALL, LARGE, WHOLE] {
+        let scene = Scene::new(Kind::Sha256, &image, shift);
         whole(&format!("whole check, {name}"), &scene, &image, reps)?;
         for pages in [1, 16].into_iter().filter(|&pages| pages < scene.pages) {
             recheck(&scene, &image, pages, SHORT_REPS)?;
         }
         recheck(&scene, &image, scene.pages, reps)?;
     }
-    whole("lookup among 65,536 cache entries", &Scene::new(&[], 12), &[], SHORT_REPS)?;
-    let (scene, image) = Scene::sample();
-    whole("whole check of the sample", &scene, &image, SHORT_REPS)?;
-    recheck(&scene, &image, 1, SHORT_REPS)?;
-    at_the_limits(reps)
+    whole(
+        "lookup among 65,536 cache entries",
+        &Scene::new(Kind::Sha256, &[], 12),
+        &[],
+        SHORT_REPS,
+    )?;
+    let (scene, sample) = Scene::sample();
+    whole("whole check of the sample", &scene, &sample, SHORT_REPS)?;
+    recheck(&scene, &sample, 1, SHORT_REPS)?;
+    at_the_limits(reps)?;
+    other_kinds(&image, reps)
 }
 
 fn main() -> ExitCode {
