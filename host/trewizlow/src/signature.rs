@@ -33,7 +33,9 @@ pub struct Directory {
     pub ident_offset: u32,
     pub special_slots: u32,
     pub code_slots: u32,
+    /// Bytes of a slot.
     pub hash_size: u8,
+    /// 1 SHA-1, 2 SHA-256, 3 SHA-256 cut to 20 bytes, 4 SHA-384.
     pub hash_type: u8,
     pub platform: u8,
     /// The pageSize field: a power of two, or 0 where the whole image is one page.

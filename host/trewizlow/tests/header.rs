@@ -21,7 +21,6 @@ use std::path::Path;
 use both::{bytes_line, calls_c, lines, Both, Recheck};
 use compile::{c, cpp, in_repository, installed, run};
 use inputs::{plan, refused, whole_checks, ABSENT, BEFORE, BLOBS, DIRECTORY};
-use reference::directory::cut;
 use reference::launch::Launch as Facts;
 use reference::sha256::digest;
 use scratch::{sample, Scratch};
@@ -103,7 +102,7 @@ fn fields_of_a_directory() {
     let both = Both::new("directory");
     let signature = plan().signature().bytes();
     both.read(&signature, &lines(&[&ACCEPTED[..], &DIRECTORY].concat()));
-    let hash = cut(digest(&plan().directory.bytes()));
+    let hash = plan().directory.cdhash();
     both.cdhash(&signature, &(lines(&ACCEPTED) + &bytes_line("hash", &hash)));
     for (kind, start, length) in BLOBS {
         let found = [("start", start), ("length", length)];
@@ -281,7 +280,7 @@ fn example_host() {
     c("-std=c99").build(&[&in_repository("examples/host.c")], &program);
     let (signature, cache) = (sample("signature.bin"), sample("cache.bin"));
     let host = |image: &str| run(&program, &[&signature, image, &cache]);
-    let lines = "check: number 0, place 4\nrecheck of page 0: number 0, place 0\n";
+    let lines = "check: number 0, place 6\nrecheck of page 0: number 0, place 0\n";
     assert_eq!(host(&sample("image.bin")), (0, lines.into()));
     let lines = "check: number 31, place 1\nrecheck of page 0: number 31, place 1\n";
     assert_eq!(host(&sample("image-damaged.bin")), (1, lines.into()));

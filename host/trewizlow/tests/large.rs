@@ -13,8 +13,7 @@ use std::time::{Duration, Instant};
 
 use reference::inputs::{Inputs, InputsPlan};
 use reference::make::DirectoryPlan;
-use reference::sha256::digest;
-use scratch::{check, ended, limited, recheck, sample, tool, Run, Scratch, TOOL};
+use scratch::{check, ended, limited, recheck, sample, tool, Run, Scratch, ACCEPTED, TOOL};
 
 const MIB: u64 = 1 << 20;
 const HUGE: u64 = 64 << 30;
@@ -34,7 +33,7 @@ fn zeros(limit: u64, page_shift: u8) -> Inputs {
     plan.directory = DirectoryPlan {
         code_limit: u32::try_from(limit).unwrap_or(u32::MAX),
         code_limit64,
-        code: vec![digest(&page); slots as usize],
+        code: vec![plan.directory.digest(&page); slots as usize],
         ..plan.directory
     };
     plan.build()
@@ -82,7 +81,7 @@ fn images_longer_than_the_code_limit() {
     let image = scratch.file("image", &bytes);
     OpenOptions::new().write(true).open(&image).unwrap().set_len(HUGE).unwrap();
     let (status, out, err) = run_with_little(&check(&signature, &image, &cache));
-    assert!(status == 0 && out.starts_with("0 4 accepted"), "{out} {err}");
+    assert!(status == 0 && out == ACCEPTED, "{out} {err}");
     let mut child = limited(&check(&signature, "/dev/stdin", &cache))
         .stdin(Stdio::piped())
         .stdout(Stdio::piped())

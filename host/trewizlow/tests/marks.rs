@@ -9,7 +9,7 @@ use std::process::{Child, Command, Stdio};
 
 use lock::{hold, until_it_waits};
 use reference::inputs::{Inputs, InputsPlan};
-use scratch::{check, check_to, ended, recheck, recheck_of, run, tool, Run, Scratch};
+use scratch::{check, check_to, ended, recheck, recheck_of, run, tool, Run, Scratch, ACCEPTED};
 
 const PAGE: usize = 4096;
 
@@ -163,10 +163,9 @@ fn symbolic_links() {
 #[test]
 fn devices_and_pipes() {
     let scratch = Scratch::new("pipes");
-    let line = "0 4 accepted: trust cache entry 4 lists the directory's hash\n";
-    let both = format!("\0\0\0{line}");
+    let both = format!("\0\0\0{ACCEPTED}");
     assert_eq!(done(check_to("/dev/stdout")), (0, both.clone(), "".into()));
-    assert_eq!(done(check_to("/dev/null")), (0, line.into(), "".into()));
+    assert_eq!(done(check_to("/dev/null")), (0, ACCEPTED.into(), "".into()));
     let out = File::create(scratch.path("out")).unwrap();
     assert!(check_to("/dev/stdout").stdout(out).status().unwrap().success());
     assert_eq!(scratch.read("out"), both.as_bytes());

@@ -2,15 +2,13 @@
 
 mod scratch;
 
-use reference::make::DirectoryPlan;
-use scratch::{check, recheck, run, sample, Scratch};
+use scratch::{check, recheck, refused_by_all, run, sample, with_directory, Scratch, ACCEPTED};
 
 #[test]
 fn accepted_and_refused() {
     let (signature, cache) = (sample("signature.bin"), sample("cache.bin"));
     let (image, damaged) = (sample("image.bin"), sample("image-damaged.bin"));
-    let line = "0 4 accepted: trust cache entry 4 lists the directory's hash\n";
-    assert_eq!(run(&check(&signature, &image, &cache)), (0, line.into(), "".into()));
+    assert_eq!(run(&check(&signature, &image, &cache)), (0, ACCEPTED.into(), "".into()));
     let line = "31 1 refused: page 1 differs from its code slot\n";
     assert_eq!(run(&check(&signature, &damaged, &cache)), (1, line.into(), "".into()));
     let mut json = check(&signature, &damaged, &cache);
@@ -140,13 +138,6 @@ fn show_prints_parts() {
     assert!(out.contains("\"well_formed\":false") && !out.contains("accepted"));
 }
 
-/// The samples' signature with another directory.
-fn with_directory(scratch: &Scratch, change: impl Fn(&mut DirectoryPlan)) -> String {
-    let mut plan = reference::samples::plan();
-    change(&mut plan.directory);
-    scratch.file("signature", &plan.covered().build().signature)
-}
-
 /// The samples' signature with these flags.
 fn with_flags(scratch: &Scratch, flags: u32) -> String {
     with_directory(scratch, |directory| directory.flags = flags)
@@ -162,22 +153,6 @@ fn show_names_flags() {
     let (_, out, _) = run(&["show", "--json", &signature]);
     assert!(out.contains("\"flags\":65538,\"flag_names\":[\"CS_ADHOC\",\"CS_RUNTIME\"]"));
     assert!(!out.contains("flags_not_allowed"));
-}
-
-/// Every command that tests a signature refuses this one with this line and this note.
-fn refused_by_all(scratch: &Scratch, signature: &str, refused: &str, note: &str) {
-    let (image, cache) = (sample("image.bin"), sample("cache.bin"));
-    let marks = scratch.file("marks", &[0, 1, 1]);
-    for command in [
-        vec!["show", signature],
-        check(signature, &image, &cache),
-        recheck(signature, ["0", "1"], &image, &marks),
-    ] {
-        let (status, out, err) = run(&command);
-        assert!(status == 1 && out.ends_with(&format!("{refused}\n")), "{out}");
-        assert_eq!(err, format!("trewizlow: note: {note}\n"));
-    }
-    assert_eq!(scratch.read("marks"), [0, 1, 1]);
 }
 
 /// Refusal 46, naming what is not allowed.

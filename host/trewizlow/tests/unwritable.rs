@@ -7,7 +7,7 @@ use std::fs::{self, Permissions};
 use std::os::unix::fs::PermissionsExt;
 use std::process::Command;
 
-use scratch::{check_to, ended, recheck_of, Run, Scratch};
+use scratch::{check_to, ended, recheck_of, Run, Scratch, ACCEPTED};
 
 const CANNOT: &str = "cannot write the marks to";
 
@@ -82,8 +82,8 @@ fn a_full_disk() {
     let marks = scratch.file("marks", &[1, 0, 0]);
     let new = scratch.path("new");
     let runs = [
-        (check_to(&marks), "0 4 accepted", &marks),
-        (check_to(&new), "0 4 accepted", &new),
+        (check_to(&marks), ACCEPTED, &marks),
+        (check_to(&new), ACCEPTED, &new),
         (recheck_of(&scratch, &marks), "0 0 pages agree", &marks),
     ];
     for (mut command, said, marks) in runs {

@@ -101,12 +101,12 @@ pub fn whole_checks() -> Vec<Whole> {
     let entry = plan().cache().entries.iter().position(|entry| entry.category == 1);
     vec![
         whole(0, entry.expect("its own entry"), [0; 3], &|_| {}),
-        whole(21, 4, kept, &|plan| plan.directory.special[3] = [1; 32]),
+        whole(21, 4, kept, &|plan| plan.directory.special[3] = vec![1; 32]),
         whole(21, 3, kept, &|plan| plan.resources = None),
         whole(21, 1, kept, &|plan| plan.info = None),
         whole(22, 3, kept, &|plan| plan.resources = plan.info.clone()),
         whole(22, 1, kept, &|plan| plan.info = plan.resources.clone()),
-        whole(23, 5, kept, &|plan| plan.directory.special[4] = [0; 32]),
+        whole(23, 5, kept, &|plan| plan.directory.special[4] = plan.directory.empty()),
         whole(28, 9, kept, &|plan| plan.category = 9),
         whole(31, 2, [0, 0, 1], &|plan| plan.image[9_000] ^= 1),
     ]

@@ -7,11 +7,16 @@ use std::os::unix::fs::symlink;
 use std::path::{Path, PathBuf};
 use std::process::{Command, Output, Stdio};
 
+use reference::make::DirectoryPlan;
+
 pub const TOOL: &str = env!("CARGO_BIN_EXE_trewizlow");
 
 pub fn sample(name: &str) -> String {
     format!("{}/../../samples/{name}", env!("CARGO_MANIFEST_DIR"))
 }
+
+/// What a check of `signature.bin` prints.
+pub const ACCEPTED: &str = "0 6 accepted: trust cache entry 6 lists the directory's hash\n";
 
 /// Status, standard output and standard error.
 pub type Run = (i32, String, String);
@@ -58,6 +63,34 @@ pub fn recheck<'a>(
     let mut list = vec!["recheck", "--signature", signature, "--start", start];
     list.extend(["--length", length, "--pages", pages, "--marks", marks]);
     list
+}
+
+/// The samples' signature with another directory.
+pub fn with_directory(scratch: &Scratch, change: impl Fn(&mut DirectoryPlan)) -> String {
+    let mut plan = reference::samples::plan();
+    change(&mut plan.directory);
+    scratch.file("signature", &plan.covered().build().signature)
+}
+
+/// Standard error with one note.
+pub fn noted(note: &str) -> String {
+    format!("trewizlow: note: {note}\n")
+}
+
+/// Every command that tests a signature refuses this one with this line and this note.
+pub fn refused_by_all(scratch: &Scratch, signature: &str, refused: &str, note: &str) {
+    let (image, cache) = (sample("image.bin"), sample("cache.bin"));
+    let marks = scratch.file("marks", &[0, 1, 1]);
+    for command in [
+        vec!["show", signature],
+        check(signature, &image, &cache),
+        recheck(signature, ["0", "1"], &image, &marks),
+    ] {
+        let (status, out, err) = run(&command);
+        assert!(status == 1 && out.ends_with(&format!("{refused}\n")), "{out}");
+        assert_eq!(err, noted(note));
+    }
+    assert_eq!(scratch.read("marks"), [0, 1, 1]);
 }
 
 /// A check of the samples that writes marks.

@@ -8,12 +8,13 @@ const CODE_DIRECTORY: u32 = 0;
 
 /// The bytes from here on of the signature's directory; none where the directory is not found or
 /// ends before.
-fn bytes<const N: usize>(signature: &[u8], at: usize) -> Option<[u8; N]> {
+pub fn bytes<const N: usize>(signature: &[u8], at: usize) -> Option<[u8; N]> {
     let directory = find(signature, CODE_DIRECTORY).part(signature);
     directory.get(at..at + N)?.try_into().ok()
 }
 
-/// The last version that is known.
+/// The first version that is known, and the last.
+pub const FIRST_VERSION: u32 = 0x20001;
 const LAST_VERSION: u32 = 0x20600;
 
 /// Whether the directory's version is known and this one or later.

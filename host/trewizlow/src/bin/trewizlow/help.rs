@@ -29,7 +29,8 @@ usage: trewizlow check --signature FILE --image FILE --cache FILE [OPTIONS]
 
 The whole check. Prints one line: the refusal number (0 is accepted), the place, and in
 words what failed where. Notes on a refusal, such as which flags are not allowed, go to
-standard error. All files are opened before any is read, the image last.
+standard error, and so does a warning where the hashes are SHA-1. All files are opened
+before any is read, the image last.
 
   --signature FILE          the embedded signature (a SuperBlob), cut out of its Mach-O
                             file; README.md has the recipe
@@ -71,8 +72,9 @@ usage: trewizlow recheck --signature FILE --start N --length N --pages FILE --ma
 
 Checks the pages that the range of N bytes from N on meets. Prints one line: the refusal
 number, the place, and in words what failed where; notes on a refusal go to standard
-error. Number 0 says that no mark is 1: every page agrees as last examined. The trust
-cache is not looked at. All files are opened before any is read, the pages last.
+error, and so does a warning where the hashes are SHA-1. Number 0 says that no mark is 1:
+every page agrees as last examined. The trust cache is not looked at. All files are opened
+before any is read, the pages last.
 
   --signature FILE   the signature of the check that wrote the marks
   --start N          where the range starts in the image
@@ -104,17 +106,19 @@ exit status: 0 no mark is 1, 1 refused, 2 usage or input error
 pub const SHOW: &str = "\
 usage: trewizlow show [--all-slots] [--json] SIGNATURE
 
-Prints the signature's blobs, and the directory's fields, slots and cdhash, its flags by
-Apple's names, and which field the code limit is. A refusal is printed in the place of
-what cannot be read; flags that are not allowed, a codeLimit64 that is too large, and a
-scatterOffset that is not 0 are named on standard error. A Mach-O file is refused: its
+Prints the signature's blobs, and the directory's fields, slots and cdhash, its hash type
+by name, its flags by Apple's names, and which field the code limit is. A refusal is
+printed in the place of what cannot be read; a hash type that is not known, a hash size
+that is not the type's, flags that are not allowed, a codeLimit64 that is too large, and
+a scatterOffset that is not 0 are named on standard error. There is a warning where the
+hashes are SHA-1, which is weak against collisions. A Mach-O file is refused: its
 signature has to be cut out first, for which README.md has the recipe.
 
   --all-slots   print every code slot, not the first 16 alone
-  --json        print an object: number, place, well_formed, message, blobs,
-                flags_not_allowed, code_limit64 and scatter_offset where they are
-                refused, and the directory with every code slot; error where the
-                status is 2
+  --json        print an object: number, place, well_formed, message, blobs, hash_type
+                and hash_size, flags_not_allowed, code_limit64 and scatter_offset where
+                they are refused, a warning where there is one, and the directory with
+                every code slot; error where the status is 2
 
 exit status: 0 well formed, 1 refused, 2 usage or input error
 ";

@@ -13,6 +13,7 @@ mod flags;
 mod found;
 mod help;
 mod json;
+mod kinds;
 mod limit;
 mod macho;
 mod map;

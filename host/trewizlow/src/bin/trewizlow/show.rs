@@ -23,9 +23,6 @@ pub const COMMAND: Command = Command {
     run,
 };
 
-/// Bytes of a slot.
-const SLOT: usize = 32;
-
 /// What the library says of a signature.
 struct Shown<'a> {
     signature: &'a [u8],
@@ -57,13 +54,20 @@ impl<'a> Shown<'a> {
         self.part(self.directory.ident_offset as usize, self.directory.ident_length)
     }
 
+    /// Bytes of a slot: by test 13 hashSize is the hash kind's.
+    fn slot_width(&self) -> usize {
+        self.directory.hash_size.into()
+    }
+
     /// Special slot k, from 1.
     fn special_slot(&self, k: usize) -> &'a [u8] {
-        self.part(self.directory.hash_offset as usize - SLOT * k, SLOT)
+        let width = self.slot_width();
+        self.part(self.directory.hash_offset as usize - width * k, width)
     }
 
     fn code_slot(&self, i: usize) -> &'a [u8] {
-        self.part(self.directory.hash_offset as usize + SLOT * i, SLOT)
+        let width = self.slot_width();
+        self.part(self.directory.hash_offset as usize + width * i, width)
     }
 }
 

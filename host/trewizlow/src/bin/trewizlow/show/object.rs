@@ -2,8 +2,8 @@
 
 use super::{hex, Shown};
 use crate::flags;
-use crate::json::{answer, array, object, string};
-use crate::{limit, scatter};
+use crate::json::{answer, array, object, string, Member};
+use crate::{kinds, limit, scatter};
 
 const WELL_FORMED: &str = "the signature is well formed: all of its tests pass";
 
@@ -13,20 +13,31 @@ pub fn text(shown: &Shown) -> String {
     let sentence = if said.accepted() { WELL_FORMED.to_string() } else { said.sentence() };
     let mut members = answer(said.number, said.place, well_formed, &sentence);
     members.push(("blobs", blobs(shown)));
-    let not_allowed = flags::not_allowed(shown.signature);
-    if !not_allowed.is_empty() {
-        members.push(("flags_not_allowed", strings(&not_allowed)));
-    }
-    if let Some(limit) = limit::too_large(shown.signature) {
-        members.push(("code_limit64", limit.to_string()));
-    }
-    if let Some(offset) = scatter::offset(shown.signature) {
-        members.push(("scatter_offset", offset.to_string()));
-    }
+    members.extend(remarks(shown.signature));
     if said.accepted() {
         members.push(("directory", directory(shown)));
     }
     object(&members) + "\n"
+}
+
+/// What a refusal is about, and what is warned of.
+fn remarks(signature: &[u8]) -> Vec<Member> {
+    let mut members = Vec::new();
+    if let Some((kind, size)) = kinds::mismatch(signature) {
+        members.extend([("hash_type", kind.to_string()), ("hash_size", size.to_string())]);
+    }
+    let not_allowed = flags::not_allowed(signature);
+    if !not_allowed.is_empty() {
+        members.push(("flags_not_allowed", strings(&not_allowed)));
+    }
+    if let Some(limit) = limit::too_large(signature) {
+        members.push(("code_limit64", limit.to_string()));
+    }
+    if let Some(offset) = scatter::offset(signature) {
+        members.push(("scatter_offset", offset.to_string()));
+    }
+    members.extend(kinds::warning(signature).map(|words| ("warning", string(&words))));
+    members
 }
 
 fn strings(words: &[String]) -> String {
@@ -59,6 +70,7 @@ fn directory(shown: &Shown) -> String {
         ("ident_offset", d.ident_offset.to_string()),
         ("hash_size", d.hash_size.to_string()),
         ("hash_type", d.hash_type.to_string()),
+        ("hash_type_name", string(kinds::name(d.hash_type))),
         ("platform", d.platform.to_string()),
         ("page_shift", d.page_shift.to_string()),
         ("code_limit", d.code_limit.to_string()),

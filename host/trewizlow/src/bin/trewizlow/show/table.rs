@@ -2,9 +2,11 @@
 
 use std::fmt::Write;
 
+use trewizlow::Directory;
+
 use super::names::covered;
 use super::{hex, Shown};
-use crate::{flags, limit};
+use crate::{flags, kinds, limit};
 
 /// Code slots that are printed where not all are asked for.
 const FEW: usize = 16;
@@ -42,7 +44,7 @@ fn fields(out: &mut String, shown: &Shown) {
         ("version", format!("{:#x}", d.version)),
         ("flags", flags::text(d.flags)),
         ("platform", d.platform.to_string()),
-        ("hash type", format!("{} (SHA-256), {} bytes a slot", d.hash_type, d.hash_size)),
+        ("hash type", hash_type(d)),
         ("code limit", format!("{} bytes ({})", d.code_limit, limit::name(shown.signature))),
         ("page size", format!("{} bytes (pageSize {})", d.page_size, d.page_shift)),
         ("code slots", format!("{} from byte {} of the directory", d.code_slots, d.hash_offset)),
@@ -52,6 +54,10 @@ fn fields(out: &mut String, shown: &Shown) {
     for (name, value) in rows {
         writeln!(out, "  {name:13}  {value}").unwrap();
     }
+}
+
+fn hash_type(d: &Directory) -> String {
+    format!("{} ({}), {} bytes a slot", d.hash_type, kinds::name(d.hash_type), d.hash_size)
 }
 
 fn special_slots(out: &mut String, shown: &Shown) {
