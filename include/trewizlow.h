@@ -17,6 +17,12 @@
  * (the four bytes at 44 of a directory of version 0x20100 or later), is made after 15 and
  * before 16 wherever 15 is made. "1 to 18" and "1 to 31" have both among them.
  *
+ * Hashes. The directory's hashType says by which function of FIPS 180-4 they are: 1 SHA-1,
+ * 2 SHA-256, 3 SHA-256 cut to 20 bytes, 4 SHA-384, with 20, 32, 20 and 48 bytes a slot (13).
+ * Pages, what special slots cover, and the directory itself are hashed by it, and the trust
+ * cache lists the directory under it (27). SHA-1 is weak against collisions: whoever made an
+ * image may hold another one with the same hashes.
+ *
  * Limits. A signature has at most 67,108,864 bytes, and a side file that is there 4,194,304
  * (1). The code limit is codeLimit64 where the directory's version is 0x20300 or later and
  * it is not 0, be it larger or smaller than codeLimit, and codeLimit elsewhere; it is at
@@ -90,7 +96,7 @@ typedef struct {
     size_t code_limit, page_size, ident_length;
 } trewizlow_directory;
 
-/* The directory's hash, cut to the 20 bytes that a trust cache lists. */
+/* The directory's hash by its own hashType, cut to the 20 bytes that a trust cache lists. */
 typedef struct {
     uint32_t number;
     size_t place;
