@@ -33,7 +33,8 @@ fn show_names_the_kind_and_cuts_its_slots() {
         let directory = &plan.directory;
         assert!(directory.code.iter().chain(&directory.special).all(|slot| slot.len() == width));
         let signature = scratch.file("signature", &plan.build().signature);
-        let (status, out, _) = run(&["show", &signature]);
+        let (status, out, err) = run(&["show", &signature]);
+        assert_eq!(err, if kind == 1 { noted(WARNING) } else { String::new() });
         let line = format!("  hash type      {kind} ({name}), {width} bytes a slot\n");
         assert!(status == 0 && out.contains(&line), "{out}");
         for (i, slot) in directory.code.iter().enumerate() {
