@@ -7,18 +7,19 @@ use mathlib.Core.Path.{_≡_, sym, subst}
 use lib.ListN.{length}
 use Rattle.refusals.specs.Refusals.{Row, Passes}
 use Rattle.refusals.proofs.Joined.{append-passes, passes-append}
-use Rattle.layout.specs.CodeDirectory.{directoryType, nCodeSlots}
+use Rattle.layout.specs.CodeDirectory.{directoryType, hashType, nCodeSlots}
 use Rattle.superblob.specs.Rows.{mostSide, position, blobOf}
 use Rattle.superblob.proofs.Lookup.{has-type, has-position, blob-at}
 use Rattle.directory.specs.Pages.{codeLimit}
 use Rattle.directory.specs.Rows.{mostSpecialSlots, directory, signatureRows}
 use Rattle.cdhash.specs.Hash.{cdhash}
+use Rattle.cdhash.proofs.Cut.{cdhash-length}
 use Rattle.directory.specs.Formed.{DirectoryFormed, SignatureFormed}
 use Rattle.directory.proofs.Formed.{signature-exactly}
 use Rattle.slots.specs.Slots.{specialRows}
 use Rattle.slots.specs.Matches.{Matches}
 use Rattle.slots.proofs.Matches.{matches-exactly}
-use Rattle.trustcache.specs.Rows.{asNumber}
+use Rattle.trustcache.specs.Rows.{entryOf}
 use Rattle.trustcache.specs.Rules.{Listed}
 use Rattle.trustcache.specs.Table.{cacheRows}
 use Rattle.trustcache.proofs.Listed.{listed-exactly}
@@ -36,7 +37,7 @@ record Rules (x : Lent) (marksLength : ℕ) (d : List ℕ) (entry : ℕ) : Type 
   image-long : codeLimit d ≤ length (x .image)
   one-mark-a-page : marksLength ≡ nCodeSlots d
   special-slots : (k : ℕ) → 1 ≤ k → k ≤ mostSpecialSlots → Matches (x .signature) d (x .sides) k
-  entry-listed : Listed (x .cache) (asNumber (cdhash d)) (x .facts) entry
+  entry-listed : Listed (x .cache) (hashType d) (cdhash d) (x .facts) entry
   pages-agree : PagesAgree d (x .image)
 
 module _ (x : Lent) (m : ℕ) where
@@ -60,7 +61,7 @@ module _ (x : Lent) (m : ℕ) where
   specialGroup = specialRows s d (x .sides)
 
   abbrev cacheGroup : List Row
-  cacheGroup = cacheRows (x .cache) (asNumber (cdhash d)) (x .facts)
+  cacheGroup = cacheRows (x .cache) (hashType d) (cdhash d) (x .facts)
 
   abbrev pageGroup : List Row
   pageGroup = badRows (marksOf s (x .image))
@@ -95,6 +96,12 @@ module _ (x : Lent) (m : ℕ) where
       (passes-append specialGroup cacheGroup (g .special) (g .cache)))))
       (g .pages)
 
+  -- the directory's hash has 20 bytes, so that tests 24 to 30 pass exactly where an entry lists it
+  by-entry : DirectoryFormed d
+      → (Passes cacheGroup ↔ Listed (x .cache) (hashType d) (cdhash d) (x .facts) (entryOf (x .cache) (cdhash d)))
+      × ((entry : ℕ) → Listed (x .cache) (hashType d) (cdhash d) (x .facts) entry → entryOf (x .cache) (cdhash d) ≡ entry)
+  by-entry f = listed-exactly (x .cache) (hashType d) (cdhash d) (x .facts) (cdhash-length d (f .hash-kind))
+
   -- ROWS TO RULES
 
   -- the rules hold of the directory at the type's position
@@ -106,8 +113,8 @@ module _ (x : Lent) (m : ℕ) where
         image-long = g .image .0;
         one-mark-a-page = g .marks .0;
         special-slots = matches-exactly s d (x .sides) (f .superblob) .0 (g .special);
-        entry-listed = listed-exactly (x .cache) (asNumber (cdhash d)) (x .facts) .0 .0 (g .cache);
-        pages-agree = good-pages d (x .image) (f .formed .hash-type) (f .formed .slot-a-page) (g .pages);
+        entry-listed = by-entry (f .formed) .0 .0 (g .cache);
+        pages-agree = good-pages d (x .image) (f .formed .slot-a-page) (g .pages);
       }
 
   -- where no row holds the image may run: its directory is at the position of type 0, and its entry the one that the search finds
@@ -155,7 +162,7 @@ module _ (x : Lent) (m : ℕ) where
     unfolding imageRows countRows
     may-groups =
         let r = may-rules in
-        let l = listed-exactly (x .cache) (asNumber (cdhash d)) (x .facts) in
+        let l = by-entry (r .formed) in
         record {
           signature =
               signature-exactly (longest (x .sides)) s .1
@@ -169,13 +176,13 @@ module _ (x : Lent) (m : ℕ) where
           marks = (r .one-mark-a-page, tt);
           special = matches-exactly s d (x .sides) (may .superblob) .1 (r .special-slots);
           cache = l .0 .1 (rw (l .1 (may .entry) (r .entry-listed)) (r .entry-listed));
-          pages = pages-good d (x .image) (r .formed .hash-type) (r .formed .slot-a-page) (r .pages-agree);
+          pages = pages-good d (x .image) (r .formed .slot-a-page) (r .pages-agree);
         }
 
     -- its entry is the one that the search finds
     pub may-entry : entryFor (beside x) ≡ may .entry
     unfolding entryFor
-    may-entry = listed-exactly (x .cache) (asNumber (cdhash d)) (x .facts) .1 (may .entry) (may-rules .entry-listed)
+    may-entry = by-entry (may-rules .formed) .1 (may .entry) (may-rules .entry-listed)
 
   pub admissible-exactly : Passes (checkTable x m) ↔ Admissible x m
   admissible-exactly = (admissible, λ may. groups-pass (may-groups may))

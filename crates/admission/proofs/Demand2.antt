@@ -6,16 +6,9 @@ use mathlib.Core.List.{List, _++_}
 use mathlib.Core.Logic.{_⊎_, ⊎-elim}
 use mathlib.Core.Path.{_≡_, refl, sym, ap, subst, _∙_}
 use lib.Dec.{eqb}
-use native.Mathlib.Omega.{arith}
-use lib.ListN.{length, getD, take}
-use lib.Seq.{length-take-le}
+use lib.ListN.{length, getD}
 use borrow.Author.Tests.{eqb-true}
-use Rattle.endian.proofs.Numbers.{take-small}
-use Rattle.sha.specs.Hash.{digest}
-use Rattle.sha.specs.Sha2.{sha256}
-use Rattle.sha.proofs.Digests.{digest-small, digest-length}
 use Rattle.digest.proofs.ByKind.{kinds-plainly}
-use Rattle.layout.specs.TrustCache.{cdhashLength}
 use Rattle.refusals.specs.declared.Answer.{Answer}
 use Rattle.refusals.specs.Refusals.{_≡?_, holds, Row, refuse, accepted, first, Passes}
 use Rattle.refusals.proofs.Conditions.{says}
@@ -24,11 +17,14 @@ use Rattle.refusals.proofs.Plain.{over-plainly, among-plainly}
 use Rattle.refusals.proofs.Joined.{first-append}
 use Rattle.superblob.specs.Rows.{headRows, indexRows, rows}
 use Rattle.directory.specs.Rows.{fieldRows, slotRows, blobRows, directoryRows, signatureRows}
-use Rattle.cdhash.specs.Hash.{cdhash}
 use Rattle.slots.specs.Slots.{specialRows}
-use Rattle.trustcache.specs.Rows.{formRows, lookupRows}
+use Rattle.cdhash.specs.Hash.{cdhash}
+use Rattle.cdhash.proofs.Cut.{cdhash-length}
+use Rattle.layout.specs.TrustCache.{hashAt}
+use Rattle.trustcache.specs.Rows.{formRows, hasHash, lookupRows}
 use Rattle.trustcache.specs.Launch.{launchRows}
-use Rattle.trustcache.proofs.Bytes.{hash-less, hash-equal}
+use Rattle.trustcache.proofs.Order.{order-plainly}
+use Rattle.trustcache.proofs.Form.{hash-length}
 use Rattle.trustcache.proofs.Constraints.{self-plainly, parent-plainly}
 use Rattle.trustcache.specs.Table.{cacheRows}
 use Rattle.geometry.specs.Pages.{pageCount, pageOf, rangeRows}
@@ -45,13 +41,11 @@ use Rattle.admission.proofs.Meets.{call-long, call-unmet, call-met}
 use Rattle.admission.proofs.PageRules.{slot-is}
 use Rattle.admission.proofs.Outcomes.{answer-passes, whole-marks}
 
--- THE DIRECTORY'S HASH is 20 bytes, each below 256, so that an entry has it as a number exactly when it has its bytes
+-- THE DIRECTORY'S HASH has 20 bytes, as a listed one has
 
 entry-hash : EntryHash
-unfolding cdhash
-entry-hash c i d h w l =
-    hash-equal c i (take cdhashLength (digest sha256 d)) h (take-small cdhashLength (digest sha256 d) (digest-small sha256 d))
-    (length-take-le cdhashLength (digest sha256 d) (omega (arith, digest-length sha256 d (omega arith)))) w l
+unfolding hasHash
+entry-hash c i d w l k = order-plainly .is-equal (hashAt c i) (cdhash d) (hash-length c i w l) (cdhash-length d k)
 
 -- THE WHOLE CHECK
 
@@ -159,7 +153,7 @@ demand2 =
             agrees-exactly = agrees-equal;
             hash-kinds = kinds-plainly;
             code-slots = slot-is;
-            hash-order = hash-less;
+            hash-order = order-plainly;
             entry-hash = entry-hash;
             self-constraint = self-plainly;
             parent-constraint = parent-plainly;

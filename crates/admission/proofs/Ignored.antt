@@ -10,8 +10,7 @@ use mathlib.Core.Path.{_≡_, refl, sym, ap, ap₂, _∙_}
 use native.Mathlib.Omega.{arith}
 use lib.Dec.{eqb}
 use lib.ListN.{length}
-use Rattle.sha.specs.Hash.{digest}
-use Rattle.sha.specs.Sha2.{sha256}
+use Rattle.digest.specs.Kinds.{digestOf}
 use Rattle.digest.specs.Same.{same}
 use Rattle.refusals.specs.declared.Answer.{Answer}
 use Rattle.refusals.specs.Refusals.{_≤?_, _≡?_, holds, row, accepted, refuse, first, Passes}
@@ -20,7 +19,7 @@ use Rattle.refusals.proofs.Exact.{passed}
 use Rattle.refusals.proofs.Joined.{first-append, append-passes}
 use Rattle.refusals.proofs.Alike.{first-behind, among-same}
 use Rattle.layout.specs.SuperBlob.{count}
-use Rattle.layout.specs.CodeDirectory.{directoryType}
+use Rattle.layout.specs.CodeDirectory.{directoryType, hashType}
 use Rattle.superblob.specs.Rows.{rows, position, has, blobOf}
 use Rattle.directory.specs.Rows.{mostSpecialSlots, directory, specialSlot, blobRows, directoryRows, signatureRows}
 use Rattle.slots.specs.Slots.{isEmpty, nothing, there, thing, faultOf, fault, specialRows}
@@ -70,14 +69,14 @@ long-same false true l m e h = absurd (false≢true e)
 long-same false false l m e h = refl
 
 -- and a fault: of a thing that is not there no digest counts
-faultOf-same : (f a b : Bool) (l m slot : List ℕ) → a ≡ b → (a ≡ true → l ≡ m)
-    → faultOf f a (same (digest sha256 l) slot) ≡ faultOf f b (same (digest sha256 m) slot)
+faultOf-same : (kind : ℕ) (f a b : Bool) (l m slot : List ℕ) → a ≡ b → (a ≡ true → l ≡ m)
+    → faultOf f a (same (digestOf kind l) slot) ≡ faultOf f b (same (digestOf kind m) slot)
 unfolding faultOf
-faultOf-same f true true l m slot e h = rw (h refl)
-faultOf-same f true false l m slot e h = absurd (true≢false e)
-faultOf-same f false true l m slot e h = absurd (false≢true e)
-faultOf-same true false false l m slot e h = refl
-faultOf-same false false false l m slot e h = refl
+faultOf-same kind f true true l m slot e h = rw (h refl)
+faultOf-same kind f true false l m slot e h = absurd (true≢false e)
+faultOf-same kind f false true l m slot e h = absurd (false≢true e)
+faultOf-same kind true false false l m slot e h = refl
+faultOf-same kind false false false l m slot e h = refl
 
 -- THE CHECKS
 
@@ -142,7 +141,7 @@ module _ (x y : Lent) (alike : Alike x y) where
     unfolding fault
     fault-same k l =
         ap (cond (eqb k 0) 0)
-        (faultOf-same (isEmpty (directory t) k) (there s (x .sides) k) (there t (y .sides) k) (thing s (x .sides) k) (thing t (y .sides) k) (specialSlot (directory t) k)
+        (faultOf-same (hashType (directory t)) (isEmpty (directory t) k) (there s (x .sides) k) (there t (y .sides) k) (thing s (x .sides) k) (thing t (y .sides) k) (specialSlot (directory t) k)
         (there-same k) (thing-same k l))
 
     specialRows-same : specialRows s (directory t) (x .sides) ≡ specialRows t (directory t) (y .sides)

@@ -2,18 +2,14 @@
 -- agrees.
 use Prim.Native.Nat.{ℕ, _<_}
 use mathlib.Core.List.{List}
-use mathlib.Core.Path.{_≡_, sym, ap, _∙_}
+use mathlib.Core.Path.{_≡_, sym, _∙_}
 use mathlib.Core.Bool.{false}
 use native.Mathlib.Omega.{arith}
 use lib.ListN.{length}
 use Rattle.refusals.specs.Refusals.{Passes}
 use Rattle.refusals.proofs.Conditions.{said}
 use Rattle.refusals.proofs.Positions.{lowest-below, none-fails}
-use Rattle.sha.specs.Hash.{digest}
-use Rattle.sha.specs.Sha2.{sha256}
-use Rattle.digest.specs.Kinds.{digestOf}
-use Rattle.digest.proofs.ByKind.{kinds-plainly}
-use Rattle.layout.specs.CodeDirectory.{sha256Type, hashType, slotWidth, nCodeSlots}
+use Rattle.layout.specs.CodeDirectory.{slotWidth, nCodeSlots}
 use Rattle.geometry.specs.Pages.{pageCount, pageOf}
 use Rattle.marks.specs.Marks.{slotAt, marksOf, differs, badRows}
 use Rattle.marks.proofs.Marking.{mark-exact, mark-small, marks-length, marks-at}
@@ -33,11 +29,7 @@ as-many : (d : List ℕ) → nCodeSlots d ≡ pages d → nCodeSlots d ≡ pageC
 unfolding pages
 as-many d e = e
 
-module _ (d image : List ℕ) (taken : hashType d ≡ sha256Type) (slot-a-page : nCodeSlots d ≡ pages d) where
-  -- its kind is SHA-256
-  by-kind : (m : List ℕ) → digestOf (hashType d) m ≡ digest sha256 m
-  by-kind m = ap (λ (k : ℕ). digestOf k m) taken ∙ kinds-plainly .by-sha256 m
-
+module _ (d image : List ℕ) (slot-a-page : nCodeSlots d ≡ pages d) where
   abbrev marks : List ℕ
   marks = marksOf (P d) (codeLimit d) (slotsBy d) image
 
@@ -50,8 +42,7 @@ module _ (d image : List ℕ) (taken : hashType d ≡ sha256Type) (slot-a-page :
       let l = said false (differs marks i) (lowest-below (differs marks) (length marks) (p .0) i (omega arith)) in
       let a = marks-at (P d) (codeLimit d) (slotsBy d) image i (omega arith) in
       let b = mark-small (slotsBy d) i (pageOf (P d) (codeLimit d) i image) in
-      sym (by-kind (pageOf (P d) (codeLimit d) i image))
-      ∙ mark-exact (slotsBy d) i (pageOf (P d) (codeLimit d) i image) .0 (omega arith) ∙ sym (slot-is d i h)
+      mark-exact (slotsBy d) i (pageOf (P d) (codeLimit d) i image) .0 (omega arith) ∙ sym (slot-is d i h)
 
   pub pages-good : PagesAgree d image → Passes (badRows marks)
   unfolding badRows differs
@@ -63,6 +54,6 @@ module _ (d image : List ℕ) (taken : hashType d ≡ sha256Type) (slot-a-page :
       (λ i l.
       let a = marks-at (P d) (codeLimit d) (slotsBy d) image i (omega arith) in
       let u : i < nCodeSlots d = omega arith in
-      let z = mark-exact (slotsBy d) i (pageOf (P d) (codeLimit d) i image) .1 (by-kind _ ∙ h i u ∙ slot-is d i u) in
+      let z = mark-exact (slotsBy d) i (pageOf (P d) (codeLimit d) i image) .1 (h i u ∙ slot-is d i u) in
       omega arith) in
       (omega arith, tt)

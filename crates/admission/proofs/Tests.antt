@@ -2,7 +2,7 @@
 use Prim.Native.Nat.{ℕ, _<_, _≤_}
 use mathlib.Core.Bool.{cond}
 use mathlib.Core.List.{List, _++_}
-use mathlib.Core.Path.{_≡_, refl, sym, ap, _∙_}
+use mathlib.Core.Path.{_≡_, refl, sym, ap, ap₂, _∙_}
 use native.Mathlib.Omega.{arith}
 use lib.ListN.{length}
 use Rattle.refusals.specs.declared.Answer.{Answer}
@@ -10,13 +10,13 @@ use Rattle.refusals.specs.Refusals.{refuse, accepted, first}
 use Rattle.refusals.proofs.Conditions.{pick-yes, pick-no}
 use Rattle.refusals.proofs.Exact.{Unused, decides, passes}
 use Rattle.refusals.proofs.Joined.{stops, goes, goes-on}
-use Rattle.layout.specs.CodeDirectory.{nCodeSlots}
+use Rattle.layout.specs.CodeDirectory.{hashType, nCodeSlots}
 use Rattle.directory.specs.Pages.{codeLimit, P}
 use Rattle.directory.specs.Rows.{directory, signatureRows}
 use Rattle.cdhash.specs.Hash.{cdhash}
 use Rattle.directory.proofs.Numbers.{signatureRows-unused}
 use Rattle.slots.specs.Slots.{Sides, specialRows}
-use Rattle.trustcache.specs.Rows.{asNumber, entryOf}
+use Rattle.trustcache.specs.Rows.{entryOf}
 use Rattle.trustcache.specs.Table.{cacheRows, cacheAnswer}
 use Rattle.geometry.specs.Pages.{rangeRows}
 use Rattle.marks.specs.Marks.{markRows}
@@ -78,7 +78,7 @@ module _ (x : Beside) (image marks side : ℕ) (q : side ≡ longest (x .sides))
   module _ (z : formed .number ≡ 0) (d : List ℕ) (k : d ≡ directory (x .signature))
       (sized : Answer) (f : sized ≡ first (imageRows d image ++ countRows d marks) accepted) where
     formed-goes : (a : Answer)
-        → a ≡ first (imageRows d image ++ countRows d marks ++ (specialRows (x .signature) d (x .sides) ++ cacheRows (x .cache) (asNumber (cdhash d)) (x .facts))) (refuse 0 (entryOf (x .cache) (asNumber (cdhash d))))
+        → a ≡ first (imageRows d image ++ countRows d marks ++ (specialRows (x .signature) d (x .sides) ++ cacheRows (x .cache) (hashType d) (cdhash d) (x .facts))) (refuse 0 (entryOf (x .cache) (cdhash d)))
         → a ≡ checkTested x image marks
     unfolding checkRows laterRows imageRows countRows entryFor
     formed-goes a g =
@@ -89,20 +89,20 @@ module _ (x : Beside) (image marks side : ℕ) (q : side ≡ longest (x .sides))
 
     module _ (y : sized .number ≡ 0) (matched : Answer) (g : matched ≡ first (specialRows (x .signature) d (x .sides)) accepted) where
       sized-goes : (a : Answer)
-          → a ≡ first (specialRows (x .signature) d (x .sides) ++ cacheRows (x .cache) (asNumber (cdhash d)) (x .facts)) (refuse 0 (entryOf (x .cache) (asNumber (cdhash d))))
+          → a ≡ first (specialRows (x .signature) d (x .sides) ++ cacheRows (x .cache) (hashType d) (cdhash d) (x .facts)) (refuse 0 (entryOf (x .cache) (cdhash d)))
           → a ≡ checkTested x image marks
       sized-goes a h = formed-goes a (goes (imageRows d image ++ countRows d marks) _ _ sized a (sizes-unused d image marks) f y h)
 
       pub matched-stops : (matched .number ≡ 0 → ⊥) → matched ≡ checkTested x image marks
       matched-stops ne = sized-goes matched (stops (specialRows (x .signature) d (x .sides)) _ _ matched g ne)
 
-      -- the cache decides, by the hash that was cut
-      pub matched-goes : matched .number ≡ 0 → (a : Answer) (hash : List ℕ) → hash ≡ cdhash d → a ≡ cacheAnswer (x .cache) (asNumber hash) (x .facts)
-          → a ≡ checkTested x image marks
-      matched-goes w a hash l h =
+      -- the cache decides, by the kind that was read and the hash that was cut
+      pub matched-goes : matched .number ≡ 0 → (a : Answer) (kind : ℕ) (hash : List ℕ) → kind ≡ hashType d → hash ≡ cdhash d
+          → a ≡ cacheAnswer (x .cache) kind hash (x .facts) → a ≡ checkTested x image marks
+      matched-goes w a kind hash t l h =
           sized-goes a
           (goes (specialRows (x .signature) d (x .sides)) _ _ matched a (special-unused (x .signature) d (x .sides)) g w
-          (h ∙ ap (λ (b : List ℕ). cacheAnswer (x .cache) (asNumber b) (x .facts)) l))
+          (h ∙ ap₂ (λ (n : ℕ) (b : List ℕ). cacheAnswer (x .cache) n b (x .facts)) t l))
 
 -- 1 TO 18, 20, 32, 33 AND 34, in the recheck
 

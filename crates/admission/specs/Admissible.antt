@@ -4,10 +4,9 @@ use mathlib.Core.Bool.{true}
 use mathlib.Core.List.{List}
 use mathlib.Core.Path.{_≡_}
 use lib.ListN.{length}
-use Rattle.sha.specs.Hash.{digest}
-use Rattle.sha.specs.Sha2.{sha256}
+use Rattle.digest.specs.Kinds.{digestOf}
 use Rattle.layout.specs.SuperBlob.{count, typeAt}
-use Rattle.layout.specs.CodeDirectory.{directoryType, nCodeSlots}
+use Rattle.layout.specs.CodeDirectory.{directoryType, hashType, nCodeSlots}
 use Rattle.superblob.specs.Rows.{mostSide, blobAt}
 use Rattle.superblob.specs.Formed.{Formed}
 use Rattle.directory.specs.Pages.{codeLimit, P}
@@ -16,13 +15,12 @@ use Rattle.cdhash.specs.Hash.{cdhash}
 use Rattle.directory.specs.Formed.{DirectoryFormed}
 use Rattle.geometry.specs.Pages.{pageOf}
 use Rattle.slots.specs.Matches.{Matches}
-use Rattle.trustcache.specs.Rows.{asNumber}
 use Rattle.trustcache.specs.Rules.{Listed}
 use Rattle.admission.specs.Input.{Lent}
 
--- every page's digest is its slot
+-- every page's digest, by the directory's kind, is its slot
 abbrev pub PagesAgree : List ℕ → List ℕ → Type 0
-PagesAgree d image = (i : ℕ) → i < nCodeSlots d → digest sha256 (pageOf (P d) (codeLimit d) i image) ≡ codeSlot d i
+PagesAgree d image = (i : ℕ) → i < nCodeSlots d → digestOf (hashType d) (pageOf (P d) (codeLimit d) i image) ≡ codeSlot d i
 
 pub record Admissible (x : Lent) (marksLength : ℕ) : Type 0 where
   -- the SuperBlob is well formed, its blobs inside, of known and distinct types, and apart
@@ -37,8 +35,9 @@ pub record Admissible (x : Lent) (marksLength : ℕ) : Type 0 where
   pub image-long : codeLimit (blobAt (x .signature) position) ≤ length (x .image)
   pub one-mark-a-page : marksLength ≡ nCodeSlots (blobAt (x .signature) position)
   pub special-slots : (k : ℕ) → 1 ≤ k → k ≤ mostSpecialSlots → Matches (x .signature) (blobAt (x .signature) position) (x .sides) k
-  -- an entry of the cache, which is well formed, lists the directory's hash cut to 20 bytes, and its category allows the launch
+  -- an entry of the cache, which is well formed, lists the directory's hash cut to 20 bytes under the directory's kind, and its category allows the
+  -- launch
   pub entry : ℕ
-  pub listed : Listed (x .cache) (asNumber (cdhash (blobAt (x .signature) position))) (x .facts) entry
+  pub listed : Listed (x .cache) (hashType (blobAt (x .signature) position)) (cdhash (blobAt (x .signature) position)) (x .facts) entry
   -- every page's digest is its slot
   pub pages-agree : PagesAgree (blobAt (x .signature) position) (x .image)

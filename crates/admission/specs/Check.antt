@@ -6,12 +6,12 @@ use mathlib.Core.Path.{_≡_}
 use lib.ListN.{length}
 use Rattle.refusals.specs.declared.Answer.{Answer}
 use Rattle.refusals.specs.Refusals.{_<?_, _≡?_, _≢?_, holds, Row, row, refuse, accepted, first}
-use Rattle.layout.specs.CodeDirectory.{nCodeSlots}
+use Rattle.layout.specs.CodeDirectory.{hashType, nCodeSlots}
 use Rattle.directory.specs.Pages.{codeLimit}
 use Rattle.directory.specs.Rows.{directory, signatureRows}
 use Rattle.cdhash.specs.Hash.{cdhash}
 use Rattle.slots.specs.Slots.{specialRows}
-use Rattle.trustcache.specs.Rows.{asNumber, entryOf}
+use Rattle.trustcache.specs.Rows.{entryOf}
 use Rattle.trustcache.specs.Table.{cacheRows}
 use Rattle.marks.specs.Marks.{badRows}
 use Rattle.admission.specs.declared.Verdict.{Verdict}
@@ -28,7 +28,7 @@ countRows d marksLength = row 20 (marksLength ≢? nCodeSlots d) 0 ∷ []
 -- 20, 21 to 23, and 24 to 30, of the directory d
 unfoldable pub laterRows : Beside → List ℕ → ℕ → List Row
 laterRows x d marksLength =
-    countRows d marksLength ++ (specialRows (x .signature) d (x .sides) ++ cacheRows (x .cache) (asNumber (cdhash d)) (x .facts))
+    countRows d marksLength ++ (specialRows (x .signature) d (x .sides) ++ cacheRows (x .cache) (hashType d) (cdhash d) (x .facts))
 
 -- tests 1 to 30, by the lengths of the image and of the marks
 unfoldable pub checkRows : Beside → ℕ → ℕ → List Row
@@ -38,7 +38,7 @@ checkRows x imageLength marksLength =
 
 -- the entry of the cache that has the directory's hash
 unfoldable pub entryFor : Beside → ℕ
-entryFor x = entryOf (x .cache) (asNumber (cdhash (directory (x .signature))))
+entryFor x = entryOf (x .cache) (cdhash (directory (x .signature)))
 
 -- what tests 1 to 30 answer, with that entry where they pass
 abbrev pub checkTested : Beside → ℕ → ℕ → Answer

@@ -6,18 +6,17 @@ use mathlib.Core.List.{List, _++_}
 use mathlib.Core.Logic.{_⊎_, _↔_}
 use mathlib.Core.Path.{_≡_}
 use lib.ListN.{length, getD}
-use Rattle.endian.specs.Numbers.{AllBytes}
 use Rattle.refusals.specs.declared.Answer.{Answer}
-use Rattle.refusals.specs.Refusals.{Decides, Passes, refuse, OverPlainly, AmongPlainly}
+use Rattle.refusals.specs.Refusals.{Says, Decides, Passes, refuse, OverPlainly, AmongPlainly}
 use Rattle.digest.specs.Kinds.{KindsPlainly}
-use Rattle.layout.specs.CodeDirectory.{nCodeSlots}
+use Rattle.layout.specs.CodeDirectory.{KnownKind, hashType, nCodeSlots}
 use Rattle.layout.specs.TrustCache.{cacheHead, entrySize, entryCount, hashAt}
 use Rattle.directory.specs.Rows.{codeSlot}
 use Rattle.cdhash.specs.Hash.{cdhash}
 use Rattle.geometry.specs.Pages.{PagePower, pageCount, pageOf}
 use Rattle.marks.specs.Marks.{slotAt, badRows, agrees, AgreesExactly}
-use Rattle.trustcache.specs.Bytes.{HashLess}
-use Rattle.trustcache.specs.Rows.{asNumber, hashNumber}
+use Rattle.trustcache.specs.Order.{OrderPlainly}
+use Rattle.trustcache.specs.Rows.{hasHash}
 use Rattle.trustcache.specs.Launch.{SelfPlainly, ParentPlainly}
 use Rattle.admission.specs.declared.Verdict.{Verdict}
 use Rattle.admission.specs.Input.{Lent, slotsBy, pageBytesOf, limitOf, slotsOf}
@@ -58,10 +57,10 @@ pub record Recheck2 (s : List ℕ) (c : Call) (marks : List ℕ) (a : Answer) (a
 abbrev pub CodeSlotsAre : Type 0
 CodeSlotsAre = (d : List ℕ) (i : ℕ) → i < nCodeSlots d → codeSlot d i ≡ slotAt (slotsBy d) i
 
--- an entry has the directory's hash exactly when it has its 20 bytes, in a cache that holds all its entries
+-- an entry of a cache that holds all its entries has the hash of a directory, by 26, exactly when it has its 20 bytes
 abbrev pub EntryHash : Type 0
-EntryHash = (c : List ℕ) (i : ℕ) (d : List ℕ) → AllBytes c → cacheHead + entrySize * entryCount c ≤ length c → i < entryCount c
-    → (hashNumber c i ≡ asNumber (cdhash d)) ↔ (hashAt c i ≡ cdhash d)
+EntryHash = (c : List ℕ) (i : ℕ) (d : List ℕ) → cacheHead + entrySize * entryCount c ≤ length c → i < entryCount c → KnownKind (hashType d)
+    → Says true (hasHash c (cdhash d) i) ↔ (hashAt c i ≡ cdhash d)
 
 -- how the rows read in plain words
 pub record Plainly : Type 0 where
@@ -70,12 +69,12 @@ pub record Plainly : Type 0 where
   pub several-numbers : AmongPlainly
   -- P is 2 to the pageSize field
   pub page-size : PagePower
-  -- a page agrees with its slot exactly when the slot holds its digest by the slots' kind, which is SHA-256's for the kind that 13 takes
+  -- a page agrees with its slot exactly when the slot holds its digest by the slots' kind, and what that is by each kind
   pub agrees-exactly : AgreesExactly
   pub hash-kinds : KindsPlainly
   pub code-slots : CodeSlotsAre
   -- hashes are ordered by their bytes, the first byte first, and an entry's is the directory's where the bytes are
-  pub hash-order : HashLess
+  pub hash-order : OrderPlainly
   pub entry-hash : EntryHash
   -- the launch constraints
   pub self-constraint : SelfPlainly

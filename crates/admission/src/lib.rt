@@ -110,7 +110,8 @@ pub fn check_tested(
     if matched.number != 0 {
         return matched;
     }
-    trustcache::tested(cache, cdhash::cdhash(d), launch)
+    let kind = CodeDirectory::read(d).hash_type;
+    trustcache::tested(cache, kind, cdhash::cdhash(d), launch)
 }
 
 // Tests 1 to 18, 20, 32, 33 and 34. No side file is lent.

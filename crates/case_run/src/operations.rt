@@ -103,11 +103,16 @@ fn hash_of(item: &[u8]) -> [u8; 20] {
     hash
 }
 
-// Tests 24 to 30.
+// Tests 24 to 30, of a directory hashed by SHA-256; whole checks have the other kinds.
 fn cache(arena: &[u8], places: &[usize; PLACES]) {
     let hash = hash_of(part(arena, places, HASH));
     let facts = launch(part(arena, places, FACTS));
-    let answer = trustcache::tested(part(arena, places, CACHE), hash, facts);
+    let answer = trustcache::tested(
+        part(arena, places, CACHE),
+        CodeDirectory::SHA256,
+        hash,
+        facts,
+    );
     print_line(answer.number, answer.place);
 }
 

@@ -1,17 +1,13 @@
--- A digest has its kind's bytes, each below 256. Assumes nothing.
-use Prim.Native.Nat.{ℕ, _*_, _<_, _≤_}
+-- A digest has as many bytes as a slot of its kind. Assumes nothing.
+use Prim.Native.Nat.{ℕ, _*_, _≤_}
 use mathlib.Core.List.{List}
 use mathlib.Core.Path.{_≡_, _∙_}
 use native.Mathlib.Omega.{arith}
-use lib.ListN.{length, getD}
+use lib.ListN.{length}
 use Rattle.layout.specs.CodeDirectory.{widthOf}
 use Rattle.sha.proofs.Digests as digests
 use Rattle.digest.specs.Kinds.{hashOf, digestOf}
 use Rattle.digest.proofs.ByKind.{by-number, width-is}
-
-pub digest-small : (k : ℕ) (m : List ℕ) (i : ℕ) → getD (digestOf k m) i 0 < 256
-unfolding digestOf
-digest-small k m = digests.digest-small (hashOf k) m
 
 pub digest-length : (k : ℕ) (m : List ℕ) → length (digestOf k m) ≡ widthOf k
 unfolding digestOf

@@ -3,25 +3,45 @@ use Prim.Native.Nat.{ℕ, _+_, _-_, _<_, _≤_}
 use mathlib.Core.Bool.{Bool, true, false}
 use mathlib.Core.List.{List}
 use mathlib.Core.Logic.{_⊎_, inl, inr}
-use mathlib.Core.Path.{_≡_, refl}
+use mathlib.Core.Path.{_≡_, refl, sym, subst}
 use native.Mathlib.Omega.{arith}
 use lib.Dec.{eqb}
 use lib.ListN.{length, getD}
 use borrow.Author.Tests.{eqb-true, eqb-false}
-use Rattle.refusals.specs.Refusals.{Passes}
+use Rattle.refusals.specs.declared.Answer.{Answer}
+use Rattle.refusals.specs.Refusals.{accepted, first, Passes}
 use Rattle.refusals.proofs.Conditions.{said}
 use Rattle.refusals.proofs.Positions.{lowest-before, lowest-fails, lowest-most, some-fails}
-use Rattle.refusals.proofs.Joined.{passes-append, append-passes}
-use Rattle.layout.specs.CodeDirectory.{identOffset, pageSize, scatterOffset, codeLimit64}
+use Rattle.refusals.proofs.Joined.{passes-append, append-passes, passed-at}
+use Rattle.layout.specs.CodeDirectory.{sha1Type, sha256Type, truncatedType, sha384Type, KnownKind, hashType, identOffset, pageSize, scatterOffset, codeLimit64}
 use Rattle.superblob.specs.Rows.{rows}
 use Rattle.superblob.proofs.Formed.{formed-exactly}
 use Rattle.directory.specs.Head.{scatterVersion, limit64Version}
 use Rattle.directory.specs.Pages.{mostCodeLimit}
-use Rattle.directory.specs.Rows.{directory, zeroAt, identLength, fieldRows, slotRows, blobRows, directoryRows, signatureRows}
+use Rattle.directory.specs.Rows.{directory, hashOutside, zeroAt, identLength, fieldRows, slotRows, blobRows, directoryRows, signatureRows}
 use Rattle.directory.specs.Formed.{DirectoryFormed, DirectoryExactly, SignatureExactly}
+use Rattle.directory.proofs.Numbers.{signatureRows-unused}
 use Rattle.directory.proofs.Flags.{flags-plainly}
 use Rattle.directory.proofs.Since.{since-plainly}
 use Rattle.directory.proofs.Slots.{slots-inside}
+
+-- TEST 13
+
+known : (x : ℕ) → ((x ≡ sha1Type → ⊥) → (x ≡ sha256Type → ⊥) → (x ≡ truncatedType → ⊥) → x ≡ sha384Type) → KnownKind x
+known x h = by-test (eqb x sha1Type) refl (eqb x sha256Type) refl (eqb x truncatedType) refl
+  where
+    by-test : (a : Bool) → eqb x sha1Type ≡ a → (b : Bool) → eqb x sha256Type ≡ b → (c : Bool) → eqb x truncatedType ≡ c → KnownKind x
+    by-test true e b f c g = inl (eqb-true x sha1Type e)
+    by-test false e true f c g = inr (inl (eqb-true x sha256Type f))
+    by-test false e false f true g = inr (inr (inl (eqb-true x truncatedType g)))
+    by-test false e false f false g =
+        inr (inr (inr (h (eqb-false x sha1Type e) (eqb-false x sha256Type f) (eqb-false x truncatedType g))))
+
+known-passes : (x : ℕ) → KnownKind x → (x ≡ sha1Type → ⊥) → (x ≡ sha256Type → ⊥) → (x ≡ truncatedType → ⊥) → x ≡ sha384Type
+known-passes x (inl e) a b c = absurd (a e)
+known-passes x (inr (inl e)) a b c = absurd (b e)
+known-passes x (inr (inr (inl e))) a b c = absurd (c e)
+known-passes x (inr (inr (inr e))) a b c = e
 
 -- TEST 14
 
@@ -77,7 +97,7 @@ identifier d f =
 -- THE DIRECTORY
 
 formed : (d : List ℕ) → Passes (blobRows d) → DirectoryFormed d
-unfolding blobRows fieldRows slotRows
+unfolding blobRows fieldRows slotRows hashOutside
 formed d p =
     let q = p .1 .1 .1 .1 .1 .1 .1 in
     let l : identLength d < length d - identOffset d = omega (arith, ident-most d, q .1 .1 .0 .1) in
@@ -85,8 +105,8 @@ formed d p =
       version-known = p .0 (omega arith);
       has-version = omega arith;
       has-head = omega arith;
-      hash-type = omega arith;
-      hash-size = omega arith;
+      hash-kind = known (hashType d) (p .1 .1 .0 .0);
+      hash-size = p .1 .1 .0 .1;
       page-size = one-of (pageSize d) (p .1 .1 .1 .0);
       flags-allowed = flags-plainly .passes d .0 (p .1 .1 .1 .1 .0);
       limit64-small = since-plainly .within limit64Version mostCodeLimit codeLimit64 d .0 (p .1 .1 .1 .1 .1 .0);
@@ -105,11 +125,11 @@ _then_ : {A B : Type 0} → A → B → A × B
 a then b = (a, b)
 
 formed-passes : (d : List ℕ) → DirectoryFormed d → Passes (blobRows d)
-unfolding blobRows fieldRows slotRows
+unfolding blobRows fieldRows slotRows hashOutside
 formed-passes d f =
     (λ l. f .version-known)
     then (f .has-version, f .has-head)
-    then (f .hash-type, f .hash-size)
+    then (known-passes (hashType d) (f .hash-kind), f .hash-size)
     then page-size-passes (pageSize d) (f .page-size)
     then flags-plainly .passes d .1 (f .flags-allowed)
     then since-plainly .within limit64Version mostCodeLimit codeLimit64 d .1 (f .limit64-small)
@@ -135,3 +155,9 @@ signature-exactly side s = (
       passes-append (rows side s) (directoryRows s) (formed-exactly side s .1 (f .superblob, f .short))
       (f .has-directory, directory-exactly (directory s) .1 (f .formed)),
 )
+
+-- where tests 1 to 18 answer 0, the kind of the directory that is found is known
+pub kind-known : (side : ℕ) (s d : List ℕ) (a : Answer) → a ≡ first (signatureRows side s) accepted → a .number ≡ 0 → d ≡ directory s → KnownKind (hashType d)
+kind-known side s d a e z f =
+    let w = signature-exactly side s .0 (passed-at (signatureRows side s) accepted a (signatureRows-unused side s) e z) in
+    subst (λ (b : List ℕ). KnownKind (hashType b)) (sym f) (w .formed .hash-kind)

@@ -15,7 +15,7 @@ use Rattle.endian.proofs.Laws.{big-below}
 use Rattle.refusals.specs.Refusals.{_<?_, _≡?_, Says}
 use Rattle.refusals.proofs.Conditions.{pick-yes, pick-no}
 use Rattle.layout.specs.CodeDirectory.{hashType, slotWidth, nCodeSlots, codeLimit32, codeLimit64}
-use Rattle.layout.proofs.Widths.{width-sha256}
+use Rattle.layout.proofs.Widths.{known-width}
 use Rattle.geometry.specs.Pages.{Fit, pageCount}
 use Rattle.geometry.proofs.Pages.{fit-of}
 use Rattle.directory.specs.Head.{limit64Version, since}
@@ -78,7 +78,7 @@ module _ (d : List ℕ) (w : DirectoryFormed d) where
   -- and no more than the directory has bytes
   pub few : nCodeSlots d ≤ length d
   unfolding slotWidth
-  few = few-slots d (omega (arith, width-sha256 (hashType d) (w .hash-type))) (w .slots-inside)
+  few = few-slots d (omega (arith, known-width (hashType d) (w .hash-kind))) (w .slots-inside)
 
   pub fits : Fit (P d) (codeLimit d)
   unfolding P

@@ -6,7 +6,7 @@ use mathlib.Core.Path.{_≡_}
 use lib.ListN.{length, getD}
 use Rattle.refusals.specs.Refusals.{Passes}
 use Rattle.layout.specs.SuperBlob.{count}
-use Rattle.layout.specs.CodeDirectory.{directoryType, sha256Type, allowedFlags, slotWidth, versionEnd, version, flags, hashOffset, identOffset, nSpecialSlots, nCodeSlots, hashSize, hashType, pageSize, scatterOffset, codeLimit64}
+use Rattle.layout.specs.CodeDirectory.{directoryType, KnownKind, allowedFlags, slotWidth, versionEnd, version, flags, hashOffset, identOffset, nSpecialSlots, nCodeSlots, hashSize, hashType, pageSize, scatterOffset, codeLimit64}
 use Rattle.superblob.specs.Rows.{mostSide, position}
 use Rattle.superblob.specs.Formed.{Formed}
 use Rattle.directory.specs.Head.{firstVersion, lastVersion, scatterVersion, limit64Version, headOf}
@@ -25,7 +25,7 @@ pub record DirectoryFormed (d : List ℕ) : Type 0 where
   pub version-known : (firstVersion ≤ version d) × (version d ≤ lastVersion)
   pub has-version : versionEnd ≤ length d
   pub has-head : headOf d ≤ length d
-  pub hash-type : hashType d ≡ sha256Type
+  pub hash-kind : KnownKind (hashType d)
   pub hash-size : hashSize d ≡ slotWidth d
   pub page-size : (pageSize d ≡ 0) ⊎ ((pageSize d ≡ 12) ⊎ (pageSize d ≡ 14))
   pub flags-allowed : BitsWithin (flags d) allowedFlags

@@ -8,7 +8,7 @@ use lib.Bits.{bitOr}
 use lib.ListN.{length, getD, take, drop}
 use Rattle.refusals.specs.Refusals.{_<?_, _≤?_, _≡?_, _≢?_, _and_, _or_, Cond, holds, lowest, Row, row}
 use Rattle.layout.specs.SuperBlob.{count}
-use Rattle.layout.specs.CodeDirectory.{directoryType, sha256Type, allowedFlags, slotWidth, versionEnd, version, flags, hashOffset, identOffset, nSpecialSlots, nCodeSlots, hashSize, hashType, pageSize, scatterOffset, codeLimit64}
+use Rattle.layout.specs.CodeDirectory.{directoryType, sha1Type, sha256Type, truncatedType, sha384Type, allowedFlags, slotWidth, versionEnd, version, flags, hashOffset, identOffset, nSpecialSlots, nCodeSlots, hashSize, hashType, pageSize, scatterOffset, codeLimit64}
 use Rattle.superblob.specs.Rows.{rows, position, blobOf}
 use Rattle.directory.specs.Head.{firstVersion, lastVersion, scatterVersion, limit64Version, headOf, since}
 use Rattle.directory.specs.Pages.{mostCodeLimit, pages}
@@ -25,6 +25,12 @@ mostSpecialSlots = 11
 -- THE DIRECTORY: the blob at the position of type 0
 abbrev pub directory : List ℕ → List ℕ
 directory s = blobOf s directoryType
+
+-- THE HASH: its kind is another than the four, or its size is not the kind's own
+unfoldable pub hashOutside : List ℕ → Cond
+hashOutside d =
+    (hashType d ≢? sha1Type and hashType d ≢? sha256Type and hashType d ≢? truncatedType and hashType d ≢? sha384Type)
+    or hashSize d ≢? slotWidth d
 
 -- THE FLAGS: they hold a bit outside the allowed ones (specs/Flags.antt says it bit by bit)
 abbrev pub flagsOutside : List ℕ → Cond
@@ -71,7 +77,7 @@ unfoldable pub fieldRows : List ℕ → List Row
 fieldRows d =
     row 11 (versionEnd ≤? length d and (version d <? firstVersion or lastVersion <? version d)) 0
     ∷ row 12 (length d <? versionEnd or length d <? headOf d) 0
-    ∷ row 13 (hashType d ≢? sha256Type or hashSize d ≢? slotWidth d) 0
+    ∷ row 13 (hashOutside d) 0
     ∷ row 14 (pageSize d ≢? 0 and pageSize d ≢? 12 and pageSize d ≢? 14) 0
     ∷ row 46 (flagsOutside d) 0
     ∷ row 15 (mostCodeLimit <? since limit64Version codeLimit64 d) 0

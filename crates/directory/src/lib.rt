@@ -2,7 +2,7 @@
 // slots.
 //
 // The directory is the blob of type 0. It is refused where its version has no head size, where its head, a slot or the
-// identifier does not lie inside it, where its hash is not SHA-256, its page size not known, a flag not allowed, its code limit too
+// identifier does not lie inside it, where its hash kind or its page size is not known, a flag not allowed, its code limit too
 // large or its pages scattered, and where its slots are not those that its code limit asks for. The table of tests is specs/Rows.antt,
 // the head by its version specs/Head.antt, its code limit and its pages specs/Pages.antt.
 ghost use mathlib.Core.Path.{_≡_};
@@ -12,7 +12,7 @@ ghost use Rattle.refusals.specs.Refusals.{holds, first, accepted};
 ghost use Rattle.layout.specs.CodeDirectory.{slotWidth, nSpecialSlots, nCodeSlots, identOffset, scatterOffset, codeLimit64};
 ghost use Rattle.directory.specs.Head.{scatterVersion, limit64Version, headSize, headOf, since};
 ghost use Rattle.directory.specs.Pages.{codeLimit, P, pages};
-ghost use Rattle.directory.specs.Rows.{specialOutside, codeOutside, identLength, fieldRows, slotRows, blobRows, signatureRows, specialSlot, codeSlots};
+ghost use Rattle.directory.specs.Rows.{hashOutside, specialOutside, codeOutside, identLength, fieldRows, slotRows, blobRows, signatureRows, specialSlot, codeSlots};
 use layout::directory::CodeDirectory;
 use layout::parts::part;
 use refusals::Answer;
@@ -97,7 +97,7 @@ fn blob_tested(d: &[u8]) -> Answer
     slots_tested(d)
 }
 
-// Tests 11 to 15 and 35: the head, the hash, the page size, the flags (46), the code limit and scatter.
+// Tests 11 to 15 and 35: the head, the hash kind, the page size, the flags (46), the code limit and scatter.
 fn fields_tested(d: &[u8]) -> Answer
     ensures { λ r. ⌜ r ≡ first (fieldRows (now (d .entry))) accepted ⌝ }
 {
@@ -116,10 +116,7 @@ fn fields_tested(d: &[u8]) -> Answer
     let flags = head.flags;
     let limit64 = limit64_of(d);
     let scatter = scatter_of(d);
-    if head.hash_type != CodeDirectory::SHA256 {
-        return answer(13, 0);
-    }
-    if head.hash_size != slot_width(d) {
+    if hash_outside(d) {
         return answer(13, 0);
     }
     match shift {
@@ -136,6 +133,21 @@ fn fields_tested(d: &[u8]) -> Answer
         return answer(35, 0);
     }
     answer(0, 0)
+}
+
+// The hash kind is not known, or the hash size is not the kind's own.
+fn hash_outside(d: &[u8]) -> bool
+    ensures { λ r. ⌜ r ≡ holds (hashOutside (now (d .entry))) ⌝ }
+{
+    let head = CodeDirectory::read(d);
+    let width = slot_width(d);
+    if width == 0 {
+        return true;
+    }
+    if head.hash_size != width {
+        return true;
+    }
+    false
 }
 
 // Tests 16 to 18: the slots and the identifier.
@@ -210,7 +222,8 @@ fn code_outside(d: &[u8]) -> bool
 fn slot_width(d: &[u8]) -> usize
     ensures { λ r. ⌜ (r ≡ slotWidth (now (d .entry))) × (r ≤ 48) ⌝ }
 {
-    CodeDirectory::slot_width(CodeDirectory::read(d).hash_type)
+    let hash_type = CodeDirectory::read(d).hash_type;
+    CodeDirectory::slot_width(hash_type)
 }
 
 // Bytes of n slots, below 2^32 times the widest, 48. Where a slot lies in the directory goes by this product.
@@ -218,7 +231,8 @@ fn slot_bytes(d: &[u8], n: usize) -> usize
     requires { ⌜ n < 4294967296 ⌝ }
     ensures { λ r. ⌜ (r ≡ slotWidth (now (d .entry)) * n) × (r < 206158430208) ⌝ }
 {
-    CodeDirectory::slot_bytes(CodeDirectory::read(d).hash_type, n)
+    let kind = CodeDirectory::read(d).hash_type;
+    CodeDirectory::slot_bytes(kind, n)
 }
 
 // Bytes of the special slots.

@@ -1,6 +1,6 @@
 -- Laws of numbers in bytes, over the width.
 use Prim.Native.Nat.{ℕ, zero, suc, _+_, _*_, _/_, _%_, _^_, _<_, _≤_, zero-le}
-use mathlib.Core.List.{List, [], _∷_}
+use mathlib.Core.List.{List, _∷_}
 use mathlib.Core.Path.{_≡_, refl, sym, ap, ap₂, _∙_}
 use native.Mathlib.Nat.{add-zero, add-suc, add-assoc, pow-zero, pow-suc, pow-le-pow-right, zero-add, mul-comm}
 use native.Mathlib.Omega.{arith}
@@ -57,10 +57,3 @@ big-bytes zero x = rw (pow-zero 256) (omega arith)
 big-bytes (suc n) x =
     big-cons n (x / 256 ^ n % 256) (bytes n x) ∙ ap (λ (y : ℕ). x / 256 ^ n % 256 * 256 ^ n + y) (big-bytes n x)
     ∙ sym (ap (λ (m : ℕ). x % m) (pow-suc 256 n ∙ mul-comm (256 ^ n) 256) ∙ mod-mul x {m = 256} {c = 256 ^ n} (omega arith) (pow-le-pow-right {n = 256} (omega arith) zero-le))
-
--- the first n of bytes are bytes
-pub take-small : (n : ℕ) (l : List ℕ) → ((k : ℕ) → getD l k 0 < 256) → (k : ℕ) → getD (take n l) k 0 < 256
-take-small zero l h k = omega arith
-take-small (suc n) [] h k = omega arith
-take-small (suc n) (x ∷ l) h zero = h 0
-take-small (suc n) (x ∷ l) h (suc k) = take-small n l (λ i. h (suc i)) k

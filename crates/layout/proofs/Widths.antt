@@ -1,14 +1,37 @@
 -- Laws of the slots' widths, by the hash kind, and of where slots lie, over any width.
 use Prim.Native.Nat.{ℕ, suc, _+_, _-_, _*_, _<_, _≤_}
-use mathlib.Core.Path.{_≡_, sym, ap, _∙_}
+use mathlib.Core.Logic.{inl, inr}
+use mathlib.Core.Path.{_≡_, refl, sym, ap, _∙_}
+use mathlib.Core.Bool.{Bool, true, false}
 use native.Mathlib.Nat.{mul-one, mul-suc, mul-le-mul-left, mul-le-mul-right}
 use native.Mathlib.Omega.{arith}
-use Rattle.refusals.proofs.Ranges.{hits, lookup-most}
-use Rattle.layout.specs.CodeDirectory.{sha256Type, slotWidths, widthOf}
+use lib.Dec.{eqb}
+use borrow.Author.Tests.{eqb-false, eqb-true}
+use Rattle.refusals.proofs.Ranges.{hits, misses, lookup-most}
+use Rattle.layout.specs.CodeDirectory.{sha1Type, sha256Type, truncatedType, sha384Type, KnownKind, slotWidths, widthOf}
 
-pub width-sha256 : (kind : ℕ) → kind ≡ sha256Type → widthOf kind ≡ 32
+-- a known kind has slots of 20 bytes or more
+pub known-width : (kind : ℕ) → KnownKind kind → 20 ≤ widthOf kind
 unfolding widthOf slotWidths
-width-sha256 kind e = sym (hits 1 slotWidths 0 kind (omega arith))
+known-width kind (inl e) = omega (arith, hits 0 slotWidths 0 kind (omega arith))
+known-width kind (inr (inl e)) = omega (arith, hits 1 slotWidths 0 kind (omega arith))
+known-width kind (inr (inr (inl e))) = omega (arith, hits 2 slotWidths 0 kind (omega arith))
+known-width kind (inr (inr (inr e))) = omega (arith, hits 3 slotWidths 0 kind (omega arith))
+
+-- so a kind whose slots have no bytes is none of the four
+pub no-width : (kind : ℕ) → widthOf kind ≡ 0 → KnownKind kind → ⊥
+no-width kind e k = omega (arith, known-width kind k)
+
+-- and the others have bytes
+pub some-width : (kind : ℕ) → (widthOf kind ≡ 0 → ⊥) → (kind ≡ sha1Type → ⊥) → (kind ≡ sha256Type → ⊥) → (kind ≡ truncatedType → ⊥) → kind ≡ sha384Type
+unfolding widthOf slotWidths
+some-width kind h a b c = by-test (eqb kind sha384Type) refl
+  where
+    by-test : (t : Bool) → eqb kind sha384Type ≡ t → kind ≡ sha384Type
+    by-test true e = eqb-true kind sha384Type e
+    by-test false e =
+        let d = eqb-false kind sha384Type e in
+        absurd (h (sym (misses slotWidths 0 kind (omega arith))))
 
 width-most : (kind : ℕ) → widthOf kind ≤ 48
 unfolding widthOf slotWidths

@@ -1,6 +1,7 @@
 -- The CodeDirectory: its fields by byte, big-endian. `d` is the directory's blob; a byte past its end counts as 0.
 use Prim.Native.Nat.{ℕ, _<_}
 use mathlib.Core.List.{List, [], _∷_}
+use mathlib.Core.Logic.{_⊎_}
 use mathlib.Core.Path.{_≡_}
 use lib.ListN.{getD}
 use Rattle.endian.specs.Numbers.{big}
@@ -46,6 +47,10 @@ truncatedType = 3
 
 abbrev pub sha384Type : ℕ
 sha384Type = 4
+
+-- a kind is one of these
+abbrev pub KnownKind : ℕ → Type 0
+KnownKind kind = (kind ≡ sha1Type) ⊎ ((kind ≡ sha256Type) ⊎ ((kind ≡ truncatedType) ⊎ (kind ≡ sha384Type)))
 
 -- bytes of a slot
 unfoldable pub slotWidths : List Range

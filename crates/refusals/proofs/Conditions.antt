@@ -2,7 +2,7 @@
 -- `omega arith` answers it.
 use Prim.Native.Nat.{ℕ}
 use mathlib.Core.Bool.{Bool, true, false, not, _&&_, _||_, true≢false, false≢true}
-use mathlib.Core.Path.{_≡_, refl, sym}
+use mathlib.Core.Path.{_≡_, refl, sym, _∙_}
 use lib.Dec.{eqb}
 use borrow.Author.Tests.{lt-ltb, le-ltb, ltb-true, ltb-false, le-leb, lt-leb, leb-true, leb-false, eqb-true, eqb-false, eq-eqb, ne-eqb}
 use Rattle.refusals.specs.Refusals.{Cond, _<?_, _≤?_, _≡?_, _≢?_, _and_, _or_, holds, Says, pick}
@@ -92,6 +92,13 @@ says false c h = sym (tells c .no h)
 pub said : (b : Bool) (c : Cond) → b ≡ holds c → Says b c
 said true c e = tells c .if-yes (sym e)
 said false c e = tells c .if-no (sym e)
+
+-- the condition that a test returned
+pub held : (b : Bool) (c : Cond) → b ≡ holds c → b ≡ true → Says true c
+held b c e t = said true c (sym t ∙ e)
+
+pub fell : (b : Bool) (c : Cond) → b ≡ holds c → b ≡ false → Says false c
+fell b c e t = said false c (sym t ∙ e)
 
 pub pick-yes : (c : Cond) (x y v : ℕ) → Says true c → v ≡ x → v ≡ pick c x y
 unfolding pick

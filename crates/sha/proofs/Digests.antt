@@ -1,41 +1,19 @@
--- What a digest is of: its bytes, how many they are, and a digest cut short, over the hash function. Assumes nothing.
-use Prim.Native.Nat.{ℕ, zero, suc, _*_, _/_, _<_, _≤_}
-use mathlib.Core.List.{List, [], _∷_, _++_}
+-- How many bytes a digest has, where they stand in the words, and a digest cut short, over the hash function. Assumes nothing.
+use Prim.Native.Nat.{ℕ, zero, suc, _*_, _/_, _≤_}
+use mathlib.Core.List.{List}
 use mathlib.Core.Path.{_≡_, refl, sym, ap, _∙_}
 use native.Mathlib.Nat.{add-comm}
 use native.Mathlib.Omega.{arith}
-use lib.ListN.{length, getD, take}
+use lib.ListN.{length, take}
 use lib.Seq.{length-take-le, take-take}
-use Rattle.endian.specs.Numbers.{bytes}
-use Rattle.endian.proofs.Numbers.{take-small}
 use Rattle.sha.specs.Message.{words, padded, allBytes}
 use Rattle.sha.specs.Hash.{Hash, cutTo, chain, chained, digest}
 use Rattle.sha.proofs.Blocks.{length-all-bytes, all-bytes-take, all-bytes-front}
-
-bytes-small : (n x k : ℕ) → getD (bytes n x) k 0 < 256
-unfolding bytes
-bytes-small zero x k = omega arith
-bytes-small (suc n) x zero = omega arith
-bytes-small (suc n) x (suc k) = bytes-small n x k
-
-append-small : (l m : List ℕ) → ((k : ℕ) → getD l k 0 < 256) → ((k : ℕ) → getD m k 0 < 256) → (k : ℕ) → getD (l ++ m) k 0 < 256
-append-small [] m f g k = g k
-append-small (x ∷ l) m f g zero = f 0
-append-small (x ∷ l) m f g (suc k) = append-small l m (λ i. f (suc i)) g k
-
-all-small : (z n : ℕ) (xs : List ℕ) (k : ℕ) → getD (allBytes z n xs) k 0 < 256
-unfolding allBytes
-all-small z zero xs k = omega arith
-all-small z (suc n) xs k = append-small (allBytes z n xs) (bytes z (getD xs n 0)) (all-small z n xs) (bytes-small z (getD xs n 0)) k
 
 module _ (f : Hash) (m : List ℕ) where
   -- the hash value of a message
   abbrev value : List ℕ
   value = chained f (f .start) (padded (f .size) m)
-
-  pub digest-small : (k : ℕ) → getD (digest f m) k 0 < 256
-  unfolding digest
-  digest-small = take-small (f .width) (allBytes (f .size) (f .count) value) (all-small (f .size) (f .count) value)
 
   pub digest-length : f .width ≤ f .size * f .count → length (digest f m) ≡ f .width
   unfolding digest

@@ -3,11 +3,10 @@ use Prim.Native.Nat.{ℕ, _<_, _≤_}
 use mathlib.Core.Bool.{Bool, true, false}
 use mathlib.Core.List.{List, [], _∷_}
 use mathlib.Core.Logic.{_⊎_, inl, inr}
-use mathlib.Core.Path.{_≡_, refl, sym, _∙_}
+use mathlib.Core.Path.{_≡_, refl, sym, ap, _∙_}
 use native.Mathlib.Omega.{arith}
 use borrow.Author.Tests.{eq-eqb, ne-eqb}
-use Rattle.sha.specs.Hash.{digest}
-use Rattle.sha.specs.Sha2.{sha256}
+use Rattle.digest.specs.Kinds.{digestOf}
 use Rattle.digest.specs.Same.{same}
 use Rattle.refusals.specs.Refusals.{holds, lowest, faulty, refuse, accepted, first}
 use Rattle.refusals.proofs.Conditions.{says, said}
@@ -15,6 +14,7 @@ use Rattle.refusals.proofs.Positions.{lowest-none, lowest-more, lowest-fails}
 use Rattle.refusals.proofs.Several.{fault-decides}
 use Rattle.refusals.proofs.Exact.{passes}
 use Rattle.refusals.specs.declared.Answer.{Answer}
+use Rattle.layout.specs.CodeDirectory.{hashType}
 use Rattle.superblob.specs.Rows.{has, blobOf}
 use Rattle.directory.specs.Rows.{specialSlot}
 use Rattle.slots.specs.Slots.{Sides, allZero, isEmpty, there, thing, faultOf, fault, specialRows}
@@ -43,10 +43,14 @@ pub fault-differs : (z t a : Bool) → z ≡ false → t ≡ true → a ≡ fals
 unfolding faultOf
 fault-differs z t a p q r = rw (p, q, r)
 
+-- the digest by the kind that is given
+pub by-kind : (kind given : ℕ) (b slot : List ℕ) (r : Bool) → given ≡ kind → r ≡ same (digestOf given b) slot → same (digestOf kind b) slot ≡ r
+by-kind kind given b slot r e h = ap (λ (k : ℕ). same (digestOf k b) slot) (sym e) ∙ sym h
+
 module _ (s d : List ℕ) (x : Sides) where
   -- by the thing that slot k covers
   abbrev at : ℕ → Bool → List ℕ → ℕ
-  at k t b = faultOf (allZero (specialSlot d k)) t (same (digest sha256 b) (specialSlot d k))
+  at k t b = faultOf (allZero (specialSlot d k)) t (same (digestOf (hashType d) b) (specialSlot d k))
 
   pub fault-zero : (k : ℕ) → k ≡ 0 → 0 ≡ fault s d x k
   unfolding fault

@@ -8,8 +8,7 @@ use mathlib.Core.Path.{_≡_, refl, sym, ap, _∙_}
 use native.Mathlib.Omega.{arith}
 use lib.Dec.{eqb}
 use borrow.Author.Tests.{eqb-true, eqb-false, ne-eqb}
-use Rattle.sha.specs.Hash.{digest}
-use Rattle.sha.specs.Sha2.{sha256}
+use Rattle.digest.specs.Kinds.{digestOf}
 use Rattle.digest.specs.Same.{same}
 use Rattle.digest.proofs.Equality.{same-equal, equal-same}
 use Rattle.refusals.specs.Ranges.{lookup}
@@ -17,6 +16,7 @@ use Rattle.refusals.specs.Refusals.{holds, OneOf}
 use Rattle.refusals.proofs.Conditions.{says, said}
 use Rattle.refusals.proofs.Several.{clear-passes, passes-clear}
 use Rattle.layout.specs.SuperBlob.{count, typeAt}
+use Rattle.layout.specs.CodeDirectory.{hashType}
 use Rattle.superblob.specs.Rows.{slotMagics, magicOf, position, has, blobOf}
 use Rattle.superblob.specs.Formed.{Formed}
 use Rattle.superblob.proofs.Lookup.{has-type, has-position, blob-at}
@@ -44,9 +44,9 @@ pub fault-known : (s d : List ℕ) (x : Sides) (k : ℕ) → OneOf (21 ∷ 22 �
 unfolding fault
 fault-known s d x k = by-test (eqb k 0)
   where
-    by-test : (t : Bool) → OneOf (21 ∷ 22 ∷ 23 ∷ []) (cond t 0 (faultOf (isEmpty d k) (there s x k) (same (digest sha256 (thing s x k)) (specialSlot d k))))
+    by-test : (t : Bool) → OneOf (21 ∷ 22 ∷ 23 ∷ []) (cond t 0 (faultOf (isEmpty d k) (there s x k) (same (digestOf (hashType d) (thing s x k)) (specialSlot d k))))
     by-test true = inr (inr (inr refl))
-    by-test false = fault-one (isEmpty d k) (there s x k) (same (digest sha256 (thing s x k)) (specialSlot d k))
+    by-test false = fault-one (isEmpty d k) (there s x k) (same (digestOf (hashType d) (thing s x k)) (specialSlot d k))
 
 -- THE SLOT
 
@@ -119,7 +119,7 @@ module _ (s : List ℕ) (x : Sides) (f : Formed s) where
 
   module _ (d : List ℕ) where
     -- no fault is left in two of the cases alone
-    by-tests : (k : ℕ) (f t a : Bool) → isEmpty d k ≡ f → there s x k ≡ t → same (digest sha256 (thing s x k)) (specialSlot d k) ≡ a
+    by-tests : (k : ℕ) (f t a : Bool) → isEmpty d k ≡ f → there s x k ≡ t → same (digestOf (hashType d) (thing s x k)) (specialSlot d k) ≡ a
         → faultOf f t a ≡ 0 → Matches s d x k
     unfolding faultOf
     by-tests k false false a p q r e = absurd (omega arith)
@@ -144,7 +144,7 @@ module _ (s : List ℕ) (x : Sides) (f : Formed s) where
     unfolding fault faultOf
     matches-clear k (inl (p, (b, (t, r)))) =
         let w = thing-there k b t in
-        rw (bytes-filled d k p, w .0, equal-same _ _ (ap (digest sha256) (w .1) ∙ r)) (zero-either (eqb k 0))
+        rw (bytes-filled d k p, w .0, equal-same _ _ (ap (digestOf (hashType d)) (w .1) ∙ r)) (zero-either (eqb k 0))
     matches-clear k (inr (p, none)) = rw (bytes-empty d k p, nothing-there k none) (zero-either (eqb k 0))
 
     slot-clear : ((k : ℕ) → 1 ≤ k → k ≤ mostSpecialSlots → Matches s d x k) → (k : ℕ) → k < mostSpecialSlots + 1 → fault s d x k ≡ 0

@@ -1,15 +1,15 @@
--- Tests 21 to 23 in plain words: each special slot is filled with the digest of the thing that is there, or empty with nothing there.
+-- Tests 21 to 23 in plain words: each special slot is filled with the digest, by the directory's kind, of the thing that is there, or empty with
+-- nothing there.
 use Prim.Native.Nat.{ℕ, _<_, _≤_}
 use mathlib.Core.Bool.{true}
 use mathlib.Core.List.{List}
 use mathlib.Core.Logic.{_⊎_, _↔_}
 use mathlib.Core.Path.{_≡_}
 use lib.ListN.{getD}
-use Rattle.sha.specs.Hash.{digest}
-use Rattle.sha.specs.Sha2.{sha256}
+use Rattle.digest.specs.Kinds.{digestOf}
 use Rattle.refusals.specs.Refusals.{Passes}
 use Rattle.layout.specs.SuperBlob.{count, typeAt}
-use Rattle.layout.specs.CodeDirectory.{infoSlot, resourcesSlot}
+use Rattle.layout.specs.CodeDirectory.{infoSlot, resourcesSlot, hashType}
 use Rattle.superblob.specs.Rows.{blobAt}
 use Rattle.superblob.specs.Formed.{Formed}
 use Rattle.directory.specs.Rows.{mostSpecialSlots, specialSlot}
@@ -33,7 +33,7 @@ pub data Thing (s : List ℕ) (x : Sides) : ℕ → List ℕ → Type 0 where
 -- slot k: filled with the digest of the thing that is there, or empty with nothing there
 abbrev pub Matches : List ℕ → List ℕ → Sides → ℕ → Type 0
 Matches s d x k =
-    (Filled d k × ((b : List ℕ) × (Thing s x k b × (digest sha256 b ≡ specialSlot d k))))
+    (Filled d k × ((b : List ℕ) × (Thing s x k b × (digestOf (hashType d) b ≡ specialSlot d k))))
     ⊎ (Empty d k × ((b : List ℕ) → Thing s x k b → ⊥))
 
 -- tests 21 to 23 pass exactly where every slot from 1 to 11 is so, of a SuperBlob that is well formed

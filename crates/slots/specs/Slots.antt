@@ -4,11 +4,10 @@ use Prim.Native.Nat.{ℕ, _+_}
 use mathlib.Core.Bool.{Bool, true, false, cond, not, _&&_, _||_}
 use mathlib.Core.List.{List, [], _∷_}
 use lib.Dec.{eqb}
-use Rattle.sha.specs.Hash.{digest}
-use Rattle.sha.specs.Sha2.{sha256}
+use Rattle.digest.specs.Kinds.{digestOf}
 use Rattle.digest.specs.Same.{same}
 use Rattle.refusals.specs.Refusals.{holds, Row, among}
-use Rattle.layout.specs.CodeDirectory.{infoSlot, resourcesSlot}
+use Rattle.layout.specs.CodeDirectory.{infoSlot, resourcesSlot, hashType}
 use Rattle.superblob.specs.Rows.{has, blobOf}
 use Rattle.directory.specs.Rows.{mostSpecialSlots, specialSlot}
 
@@ -57,9 +56,9 @@ faultOf false true true = 0
 faultOf true true agrees = 23
 faultOf true false agrees = 0
 
--- what is wrong at slot k, for k from 1; 0 where nothing is
+-- what is wrong at slot k, for k from 1; 0 where nothing is. The digest is by the directory's kind
 unfoldable pub fault : List ℕ → List ℕ → Sides → ℕ → ℕ
-fault s d x k = cond (eqb k 0) 0 (faultOf (isEmpty d k) (there s x k) (same (digest sha256 (thing s x k)) (specialSlot d k)))
+fault s d x k = cond (eqb k 0) 0 (faultOf (isEmpty d k) (there s x k) (same (digestOf (hashType d) (thing s x k)) (specialSlot d k)))
 
 -- one test over k from 1 to 11
 unfoldable pub specialRows : List ℕ → List ℕ → Sides → List Row

@@ -1,12 +1,11 @@
 // The special slots of a directory: tests 21 to 23 of document 01.
 //
 // Slot k holds the hash of one thing: 1 the Info.plist, 3 the CodeResources, 2, 5, 7 and 8 to 11 the blob of that type with its head; 4 and
-// 6 cover nothing. A slot that is empty while its thing is there is refused, as is a slot that is filled while its thing is not. The
-// test's definition is specs/Slots.antt, and its plain reading specs/Matches.antt.
+// 6 cover nothing. The hash is by the directory's kind. A slot that is empty while its thing is there is refused, as is a slot that is
+// filled while its thing is not. The test's definition is specs/Slots.antt, and its plain reading specs/Matches.antt.
 ghost use mathlib.Core.Path.{_≡_};
 ghost use Rattle.refusals.specs.Refusals.{lowest, faulty, first, accepted};
-ghost use Rattle.sha.specs.Hash.{digest};
-ghost use Rattle.sha.specs.Sha2.{sha256};
+ghost use Rattle.digest.specs.Kinds.{digestOf};
 ghost use Rattle.digest.specs.Same.{same};
 ghost use Prim.Native.Nat.{_+_};
 ghost use Rattle.directory.specs.Rows.{mostSpecialSlots};
@@ -70,19 +69,25 @@ fn fault_at(
 ) -> u32
     ensures { λ r. ⌜ r ≡ fault (now (sig .entry)) (now (d .entry)) (sides «info_there» (now (info .entry)) «resources_there» (now (resources .entry))) k ⌝ }
 {
+    let kind = CodeDirectory::read(d).hash_type;
     let slot = directory::special_slot(d, k as usize);
     match k {
         0 => 0,
-        1 => fault_of(slot, info_there, info),
-        3 => fault_of(slot, resources_there, resources),
-        4 | 6 => fault_of(slot, false, superblob::blob_of(sig, k)),
-        _ => fault_of(slot, superblob::has(sig, k), superblob::blob_of(sig, k)),
+        1 => fault_of(kind, slot, info_there, info),
+        3 => fault_of(kind, slot, resources_there, resources),
+        4 | 6 => fault_of(kind, slot, false, superblob::blob_of(sig, k)),
+        _ => fault_of(
+            kind,
+            slot,
+            superblob::has(sig, k),
+            superblob::blob_of(sig, k),
+        ),
     }
 }
 
-// What is wrong at a special slot, by its bytes, whether its thing is there, and the thing's bytes.
-fn fault_of(slot: &[u8], there: bool, thing: &[u8]) -> u32
-    ensures { λ r. ⌜ r ≡ faultOf (allZero (now (slot .entry))) there (same (digest sha256 (now (thing .entry))) (now (slot .entry))) ⌝ }
+// What is wrong at a special slot, by the directory's hash kind, the slot's bytes, whether its thing is there, and the thing's bytes.
+fn fault_of(kind: usize, slot: &[u8], there: bool, thing: &[u8]) -> u32
+    ensures { λ r. ⌜ r ≡ faultOf (allZero (now (slot .entry))) there (same (digestOf kind (now (thing .entry))) (now (slot .entry))) ⌝ }
 {
     if all_zero(slot) {
         if there {
@@ -91,7 +96,7 @@ fn fault_of(slot: &[u8], there: bool, thing: &[u8]) -> u32
         return 0;
     }
     if there {
-        if digest::agrees(CodeDirectory::SHA256, thing, slot) {
+        if digest::agrees(kind, thing, slot) {
             return 0;
         }
         return 22;

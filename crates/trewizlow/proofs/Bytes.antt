@@ -158,5 +158,5 @@ directory-shown s = by-test (readable s) refl
 -- THE DIRECTORY'S HASH
 
 pub hash-shown : (s : List ℕ) → HashShown s (directoryHash s)
-unfolding directoryHash cdhash
+unfolding directoryHash cdhash hashType
 hash-shown s = record { answer-is = refl; passed = λ z. sym (when-read s (readAnswer s) refl _ _ z); refused = λ n. sym (when-refused s (readAnswer s) refl _ _ n) }

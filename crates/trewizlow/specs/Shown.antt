@@ -5,8 +5,7 @@ use mathlib.Core.List.{List}
 use mathlib.Core.Path.{_≡_}
 use lib.ListN.{getD, take, drop, replicate}
 use Rattle.endian.specs.Numbers.{big}
-use Rattle.sha.specs.Hash.{digest}
-use Rattle.sha.specs.Sha2.{sha256}
+use Rattle.digest.specs.Kinds.{digestOf}
 use Rattle.refusals.specs.Refusals.{refuse, accepted, first}
 use Rattle.superblob.specs.Rows.{rows, blob}
 use Rattle.directory.specs.Rows.{directory, signatureRows}
@@ -80,8 +79,8 @@ pub record DirectoryShown (s : List ℕ) (r : DirectoryFields) : Type 0 where
 
 -- THE DIRECTORY'S HASH
 
--- what is shown of it: the answer of tests 1 to 18, and the first 20 bytes of the digest of the whole blob, or zeros
+-- what is shown of it: the answer of tests 1 to 18, and the first 20 bytes of the digest of the whole blob, by the kind in its byte 37, or zeros
 pub record HashShown (s : List ℕ) (r : DirectoryHash) : Type 0 where
   pub answer-is : refuse (r .number) (r .place) ≡ first (signatureRows 0 s) accepted
-  pub passed : r .number ≡ 0 → r .hash ≡ take 20 (digest sha256 (directory s))
+  pub passed : r .number ≡ 0 → r .hash ≡ take 20 (digestOf (getD (directory s) 37 0) (directory s))
   pub refused : (r .number ≡ 0 → ⊥) → r .hash ≡ replicate 20 0

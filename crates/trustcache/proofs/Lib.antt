@@ -1,5 +1,4 @@
 -- Laws, by subject.
-pub mod Bytes
 pub mod Order
 pub mod Form
 pub mod Lookup

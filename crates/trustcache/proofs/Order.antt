@@ -1,106 +1,187 @@
--- How one number stands to another, and how a comparison byte by byte finds it.
+-- The order of hashes, and how a comparison byte by byte finds it. Two hashes are equal, or one is below the other.
 use Prim.Native.Nat.{ℕ, _+_, _-_, _<_, _≤_}
 use mathlib.Core.Bool.{Bool, true, false}
 use mathlib.Core.List.{List}
-use mathlib.Core.Path.{_≡_, refl, sym, ap, _∙_}
-use native.Mathlib.Nat.{zero-add}
-use native.Mathlib.Numerals.{add-one}
+use mathlib.Core.Logic.{_⊎_, inl, inr, ⊎-elim}
+use mathlib.Core.Path.{_≡_, refl, sym, ap, subst, _∙_}
+use native.Mathlib.Nat.{zero-add, eq-or-lt-of-le}
 use native.Mathlib.Omega.{arith}
-use lib.Dec.{ltb, eqb}
-use lib.ListN.{getD}
-use borrow.Author.Tests.{ltb-true, ltb-false, eqb-true, eqb-false}
-use Rattle.endian.specs.Numbers.{AllBytes, big}
+use lib.Dec.{ltb}
+use lib.ListN.{length, getD}
+use lib.Seq.{ext-getD}
+use borrow.Author.Tests.{ltb-true, ltb-false}
 use Rattle.layout.specs.TrustCache.{cdhashLength, hashAt}
-use Rattle.refusals.specs.Refusals.{holds}
-use Rattle.refusals.proofs.Conditions.{says, pick-yes, pick-no}
-use Rattle.trustcache.specs.Rows.{asNumber, hashNumber, order, notAbove}
-use Rattle.trustcache.proofs.Bytes.{big-step, less-number}
+use Rattle.refusals.specs.Refusals.{holds, lowest}
+use Rattle.refusals.proofs.Conditions.{says, said, pick-yes, pick-no}
+use Rattle.refusals.proofs.Positions.{lowest-before, lowest-fails, none-fails, first-fails}
+use Rattle.trustcache.specs.Order.{differsAt, firstDiffering, below, equal, above, order, FirstLess, Below, OrderPlainly}
+use Rattle.trustcache.specs.Rows.{notAbove}
 
-order-below : (x y : ℕ) → x < y → 0 ≡ order x y
-unfolding order
-order-below x y h = pick-yes _ _ _ _ h refl
+-- the first n bytes are the same
+pub record SameTo (n : ℕ) (x y : List ℕ) : Type 0 where
+  pub byte : (m : ℕ) → m < n → getD x m 0 ≡ getD y m 0
 
-order-equal : (x y : ℕ) → x ≡ y → 1 ≡ order x y
-unfolding order
-order-equal x y e = pick-no _ _ _ _ (omega arith) (pick-yes _ _ _ _ e refl)
+-- all are
+abbrev pub Same : List ℕ → List ℕ → Type 0
+Same x y = SameTo cdhashLength x y
 
-order-above : (x y : ℕ) → y < x → 2 ≡ order x y
-unfolding order
-order-above x y h = pick-no _ _ _ _ (omega arith) (pick-no _ _ _ _ (omega arith) refl)
+-- THE RELATION
 
--- what the order says
-pub record Ordered (x y r : ℕ) : Type 0 where
-  pub below : r ≡ 0 → x < y
-  pub equal : r ≡ 1 → x ≡ y
-  pub above : r ≡ 2 → y < x
-  pub not-above : (r ≡ 2 → ⊥) → x ≤ y
-  pub small : r ≤ 2
-
-ordered : (x y r : ℕ) → r ≡ order x y → Ordered x y r
-ordered x y r e = by-test (ltb x y) refl (eqb x y) refl
+pub below-trans : (x y z : List ℕ) → Below x y → Below y z → Below x z
+below-trans x y z (a, f) (b, g) = by-places (ltb a b) refl (ltb b a) refl
   where
-    by-test : (s : Bool) → ltb x y ≡ s → (t : Bool) → eqb x y ≡ t → Ordered x y r
-    by-test true f t g =
-        let l = ltb-true x y f in
-        let o = order-below x y l in
-        record { below = λ q. l; equal = λ q. absurd (omega arith); above = λ q. absurd (omega arith); not-above = λ q. omega arith; small = omega arith }
-    by-test false f true g =
-        let l = eqb-true x y g in
-        let o = order-equal x y l in
-        record { below = λ q. absurd (omega arith); equal = λ q. l; above = λ q. absurd (omega arith); not-above = λ q. omega arith; small = omega arith }
-    by-test false f false g =
-        let m = ltb-false x y f in
-        let n = eqb-false x y g in
-        let l : y < x = omega arith in
-        let o = order-above x y l in
-        record { below = λ q. absurd (omega arith); equal = λ q. absurd (omega arith); above = λ q. l; not-above = λ q. absurd (q (omega arith)); small = omega arith }
+    by-places : (s : Bool) → ltb a b ≡ s → (t : Bool) → ltb b a ≡ t → Below x z
+    by-places true e t h =
+        let l = ltb-true a b e in
+        let q = g .same a l in
+        (a, record { inside = f .inside; same = λ m u. f .same m u ∙ g .same m (omega arith); less = omega (arith, f .less) })
+    by-places false e true h =
+        let l = ltb-true b a h in
+        let q = f .same b l in
+        (b, record { inside = g .inside; same = λ m u. f .same m (omega arith) ∙ g .same m u; less = omega (arith, g .less) })
+    by-places false e false h =
+        let k = ltb-false a b e in
+        let l = ltb-false b a h in
+        let q : b ≡ a = omega arith in
+        let v = subst (FirstLess y z) q g in
+        (a, record { inside = f .inside; same = λ m u. f .same m u ∙ v .same m u; less = omega (arith, f .less, v .less) })
 
--- A COMPARISON of two hashes that has found the first i bytes equal, and reads the next
+pub below-differs : (x y : List ℕ) → Below x y → Same x y → ⊥
+below-differs x y (k, f) s = let e = s .byte k (f .inside) in omega (arith, f .less)
 
-pub compare-none : (x y : List ℕ) → big 0 x 0 ≡ big 0 y 0
-unfolding big
-compare-none x y = refl
+-- THE ORDER
 
-module _ (x y : List ℕ) (i a b : ℕ) (e : big i x 0 ≡ big i y 0) (p : a ≡ getD x (0 + i) 0) (q : b ≡ getD y (0 + i) 0) where
+first-at : (x y : List ℕ) (k : ℕ) → k < cdhashLength → ((m : ℕ) → m < k → getD x m 0 ≡ getD y m 0) → (getD x k 0 ≡ getD y k 0 → ⊥) → firstDiffering x y ≡ k
+unfolding firstDiffering
+first-at x y k l s d = first-fails (differsAt x y) cdhashLength k l s d
+
+order-same : (x y : List ℕ) → Same x y → equal ≡ order x y
+unfolding order firstDiffering
+order-same x y s = pick-yes _ _ _ _ (none-fails (differsAt x y) cdhashLength (s .byte)) refl
+
+order-below : (x y : List ℕ) → Below x y → below ≡ order x y
+unfolding order
+order-below x y (k, f) =
+    let e = first-at x y k (f .inside) (f .same) (λ q. omega (arith, f .less)) in
+    pick-no _ _ _ _ (omega (arith, f .inside)) (pick-yes _ _ _ _ (rw e (f .less)) refl)
+
+order-above : (x y : List ℕ) → Below y x → above ≡ order x y
+unfolding order
+order-above x y (k, f) =
+    let e = first-at x y k (f .inside) (λ m l. sym (f .same m l)) (λ q. omega (arith, f .less)) in
+    let l : getD y k 0 ≤ getD x k 0 = omega (arith, f .less) in
+    pick-no _ _ _ _ (omega (arith, f .inside)) (pick-no _ _ _ _ (rw e l) refl)
+
+module _ (x y : List ℕ) where
+  same-before : (m : ℕ) → m < firstDiffering x y → getD x m 0 ≡ getD y m 0
+  unfolding firstDiffering
+  same-before m l = said false (differsAt x y m) (lowest-before (differsAt x y) cdhashLength m l)
+
+  differs-there : firstDiffering x y < cdhashLength → getD x (firstDiffering x y) 0 ≡ getD y (firstDiffering x y) 0 → ⊥
+  unfolding firstDiffering
+  differs-there l = said true (differsAt x y (lowest (differsAt x y) cdhashLength)) (lowest-fails (differsAt x y) cdhashLength l)
+
+  -- one of the three
+  stand : Below x y ⊎ (Same x y ⊎ Below y x)
+  stand =
+      by-test (ltb (firstDiffering x y) cdhashLength) refl
+      (ltb (getD x (firstDiffering x y) 0) (getD y (firstDiffering x y) 0)) refl
+    where
+      by-test : (s : Bool) → ltb (firstDiffering x y) cdhashLength ≡ s
+          → (t : Bool) → ltb (getD x (firstDiffering x y) 0) (getD y (firstDiffering x y) 0) ≡ t → Below x y ⊎ (Same x y ⊎ Below y x)
+      by-test true e true h =
+          inl (firstDiffering x y, record { inside = ltb-true _ _ e; same = same-before; less = ltb-true _ _ h })
+      by-test true e false h =
+          let l = ltb-true (firstDiffering x y) cdhashLength e in
+          let d = differs-there l in
+          let g = ltb-false (getD x (firstDiffering x y) 0) (getD y (firstDiffering x y) 0) h in
+          inr (inr (firstDiffering x y, record { inside = l; same = λ m u. sym (same-before m u); less = omega arith }))
+      by-test false e t h =
+          let l = ltb-false (firstDiffering x y) cdhashLength e in
+          inr (inl (record { byte = λ m u. same-before m (omega arith) }))
+
+-- what a comparison's result says
+pub record Ordered (x y : List ℕ) (r : ℕ) : Type 0 where
+  pub if-below : r ≡ below → Below x y
+  pub if-equal : r ≡ equal → Same x y
+  pub if-above : r ≡ above → Below y x
+  pub small : r ≤ above
+
+pub ordered : (x y : List ℕ) (r : ℕ) → r ≡ order x y → Ordered x y r
+ordered x y r e = by-stand (stand x y)
+  where
+    by-stand : Below x y ⊎ (Same x y ⊎ Below y x) → Ordered x y r
+    by-stand (inl b) =
+        let o = order-below x y b in
+        record { if-below = λ q. b; if-equal = λ q. absurd (omega arith); if-above = λ q. absurd (omega arith); small = omega arith }
+    by-stand (inr (inl s)) =
+        let o = order-same x y s in
+        record { if-below = λ q. absurd (omega arith); if-equal = λ q. s; if-above = λ q. absurd (omega arith); small = omega arith }
+    by-stand (inr (inr b)) =
+        let o = order-above x y b in
+        record { if-below = λ q. absurd (omega arith); if-equal = λ q. absurd (omega arith); if-above = λ q. b; small = omega arith }
+
+-- two hashes of 20 bytes each that are equal are the same bytes
+pub equal-bytes : (x y : List ℕ) → length x ≡ cdhashLength → length y ≡ cdhashLength → order x y ≡ equal → x ≡ y
+equal-bytes x y n m e = ext-getD 0 x y (n ∙ sym m) (λ k l. ordered x y equal (sym e) .if-equal refl .byte k (omega arith))
+
+-- and a hash is equal to itself
+pub bytes-equal : (x y : List ℕ) → x ≡ y → order x y ≡ equal
+bytes-equal x y e = sym (order-same x y (record { byte = λ m l. ap (λ (b : List ℕ). getD b m 0) e }))
+
+pub order-plainly : OrderPlainly
+order-plainly =
+    record {
+      is-below = λ x y. ((λ e. ordered x y below (sym e) .if-below refl), λ b. sym (order-below x y b));
+      is-above = λ x y. ((λ e. ordered x y above (sym e) .if-above refl), λ b. sym (order-above x y b));
+      is-equal = λ x y n m. (equal-bytes x y n m, bytes-equal x y);
+    }
+
+-- A COMPARISON of two hashes that has found the first i bytes the same, and reads the next
+
+pub compare-none : (x y : List ℕ) → SameTo 0 x y
+compare-none x y = record { byte = λ m l. absurd (omega arith) }
+
+module _ (x y : List ℕ) (i a b : ℕ) (s : SameTo i x y) (p : a ≡ getD x (0 + i) 0) (q : b ≡ getD y (0 + i) 0) where
   left : a ≡ getD x i 0
   left = p ∙ ap (λ (k : ℕ). getD x k 0) (zero-add i)
 
   right : b ≡ getD y i 0
   right = q ∙ ap (λ (k : ℕ). getD y k 0) (zero-add i)
 
-  pub compare-below : i < cdhashLength → a < b → AllBytes x → 0 ≡ order (asNumber x) (asNumber y)
-  compare-below l h small =
-      order-below (asNumber x) (asNumber y) (less-number x y small cdhashLength i l e (omega (arith, left, right)))
+  pub compare-below : i < cdhashLength → a < b → below ≡ order x y
+  compare-below l h = order-below x y (i, record { inside = l; same = s .byte; less = omega (arith, left, right) })
 
-  pub compare-above : i < cdhashLength → b < a → AllBytes y → 2 ≡ order (asNumber x) (asNumber y)
-  compare-above l h small =
-      order-above (asNumber x) (asNumber y) (less-number y x small cdhashLength i l (sym e) (omega (arith, left, right)))
+  pub compare-above : i < cdhashLength → b < a → above ≡ order x y
+  compare-above l h =
+      order-above x y (i, record { inside = l; same = λ m u. sym (s .byte m u); less = omega (arith, left, right) })
 
-  pub compare-more : a ≡ b → big (i + 1) x 0 ≡ big (i + 1) y 0
-  compare-more h = rw (add-one i) (omega (arith, left, right, big-step i x, big-step i y))
+  pub compare-more : a ≡ b → SameTo (i + 1) x y
+  compare-more h =
+      record {
+        byte =
+            λ m l.
+            ⊎-elim (λ e. subst (λ (k : ℕ). getD x k 0 ≡ getD y k 0) (sym e) (sym left ∙ h ∙ right)) (s .byte m)
+            (eq-or-lt-of-le (let u : m ≤ i = omega arith in u));
+      }
 
-pub compare-equal : (x y : List ℕ) (i : ℕ) → i ≡ cdhashLength → big i x 0 ≡ big i y 0 → 1 ≡ order (asNumber x) (asNumber y)
-compare-equal x y i n e = order-equal (asNumber x) (asNumber y) (rw n at e)
+pub compare-equal : (x y : List ℕ) (i : ℕ) → i ≡ cdhashLength → SameTo i x y → equal ≡ order x y
+compare-equal x y i n s = order-same x y (subst (λ (k : ℕ). SameTo k x y) n s)
 
--- COMPARED with an entry's hash, as the code lends it
+-- THE ORDER TEST of entry i
 
-pub compared : (c x : List ℕ) (i r h : ℕ) → x ≡ hashAt c i → r ≡ order (asNumber x) h → Ordered (hashNumber c i) h r
-unfolding hashNumber
-compared c x i r h e o = ordered (asNumber (hashAt c i)) h r (o ∙ ap (λ (l : List ℕ). order (asNumber l) h) e)
-
-pub compared-both : (c x y : List ℕ) (i j r : ℕ) → x ≡ hashAt c i → y ≡ hashAt c j → r ≡ order (asNumber x) (asNumber y) → Ordered (hashNumber c i) (hashNumber c j) r
-unfolding hashNumber
-compared-both c x y i j r e f o = compared c x i r (asNumber (hashAt c j)) e (o ∙ ap (λ (l : List ℕ). order (asNumber x) (asNumber l)) f)
-
--- the order test of entry i
 pub first-is-above : (c : List ℕ) (i : ℕ) → i ≡ 0 → false ≡ holds (notAbove c i)
 unfolding notAbove
 first-is-above c i e = says false (notAbove c i) (λ z. absurd (omega arith))
 
-pub is-above : (c : List ℕ) (i r : ℕ) → Ordered (hashNumber c i) (hashNumber c (i - 1)) r → r ≡ 2 → false ≡ holds (notAbove c i)
-unfolding notAbove
-is-above c i r o e = says false (notAbove c i) (λ z. o .above e)
+module _ (c x y : List ℕ) (i r : ℕ) (e : x ≡ hashAt c i) (f : y ≡ hashAt c (i - 1)) (o : r ≡ order x y) where
+  compared : r ≡ order (hashAt c i) (hashAt c (i - 1))
+  compared = o ∙ ap (λ (l : List ℕ). order l y) e ∙ ap (order (hashAt c i)) f
 
-pub is-not-above : (c : List ℕ) (i r : ℕ) → Ordered (hashNumber c i) (hashNumber c (i - 1)) r → (i ≡ 0 → ⊥) → (r ≡ 2 → ⊥) → true ≡ holds (notAbove c i)
-unfolding notAbove
-is-not-above c i r o n e = says true (notAbove c i) (omega arith, o .not-above e)
+  pub is-above : r ≡ above → false ≡ holds (notAbove c i)
+  unfolding notAbove
+  is-above q = says false (notAbove c i) (λ z. sym compared ∙ q)
+
+  pub is-not-above : (i ≡ 0 → ⊥) → (r ≡ above → ⊥) → true ≡ holds (notAbove c i)
+  unfolding notAbove
+  is-not-above n q = says true (notAbove c i) (omega arith, λ z. q (compared ∙ z))

@@ -9,13 +9,13 @@ use Rattle.refusals.specs.Refusals.{refuse, first, Passes}
 use Rattle.trustcache.specs.Rows.{formRows, entryOf, lookupRows}
 
 -- of the entry r that the search finds
-pub record EntryFound (c : List ℕ) (h r : ℕ) : Type 0 where
+pub record EntryFound (c h : List ℕ) (r : ℕ) : Type 0 where
   pub found : Passes (formRows c) → r ≡ entryOf c h
   -- in any cache
   pub within : r ≤ entryCount c
 
 -- of the answer a of tests 26 to 28
-pub record LookupAnswer (c : List ℕ) (h : ℕ) (a : Answer) : Type 0 where
-  pub answer-is : Passes (formRows c) → a ≡ first (lookupRows c h) (refuse 0 (entryOf c h))
+pub record LookupAnswer (c : List ℕ) (kind : ℕ) (h : List ℕ) (a : Answer) : Type 0 where
+  pub answer-is : Passes (formRows c) → a ≡ first (lookupRows c kind h) (refuse 0 (entryOf c h))
   -- in any cache
   pub number-known : (a .number ≡ 0) ⊎ ((a .number ≡ 26) ⊎ ((a .number ≡ 27) ⊎ (a .number ≡ 28)))

@@ -1,13 +1,12 @@
 -- Tests 24 to 28: the form of a trust cache, and the entry that lists a directory (document 01, "Trust cache and launch constraints").
--- `c` is the lent cache; `h` is the first 20 bytes of the directory's hash as a number.
+-- `c` is the lent cache; `kind` is the directory's hash kind, and `h` its hash, cut to 20 bytes.
 use Prim.Native.Nat.{ℕ, _+_, _-_, _*_}
 use mathlib.Core.List.{List, [], _∷_}
 use lib.ListN.{length}
-use Rattle.endian.specs.Numbers.{big}
-use Rattle.layout.specs.CodeDirectory.{sha256Type}
-use Rattle.layout.specs.TrustCache.{versionTaken, cacheHead, entrySize, cdhashLength, cacheVersion, entryCount, hashAt, hashTypeAt, categoryAt}
+use Rattle.layout.specs.TrustCache.{versionTaken, cacheHead, entrySize, cacheVersion, entryCount, hashAt, hashTypeAt, categoryAt}
+use Rattle.trustcache.specs.Order.{equal, above, order}
 use Rattle.trustcache.specs.Launch.{constrainedCategory}
-use Rattle.refusals.specs.Refusals.{Cond, _<?_, _≤?_, _≡?_, _≢?_, _and_, _or_, pick, lowest, Row, row, over}
+use Rattle.refusals.specs.Refusals.{Cond, _<?_, _≡?_, _≢?_, _and_, _or_, lowest, Row, row, over}
 
 -- LIMITS
 
@@ -19,26 +18,11 @@ mostEntries = 65536
 abbrev pub highestCategory : ℕ
 highestCategory = constrainedCategory
 
--- HASHES
-
--- a hash of 20 bytes as a number, the first byte the most significant: such numbers are ordered as the bytes are, the first byte first
--- (`HashLess` of Bytes.antt)
-abbrev pub asNumber : List ℕ → ℕ
-asNumber hash = big cdhashLength hash 0
-
--- the hash of entry i
-unfoldable pub hashNumber : List ℕ → ℕ → ℕ
-hashNumber c i = asNumber (hashAt c i)
-
--- how one number stands to another: 0 below, 1 equal, 2 above
-unfoldable pub order : ℕ → ℕ → ℕ
-order x y = pick (x <? y) 0 (pick (x ≡? y) 1 2)
-
 -- TESTS 24 AND 25
 
 -- entry i is not above the one before
 unfoldable pub notAbove : List ℕ → ℕ → Cond
-notAbove c i = 0 <? i and hashNumber c i ≤? hashNumber c (i - 1)
+notAbove c i = 0 <? i and order (hashAt c i) (hashAt c (i - 1)) ≢? above
 
 -- the cache's form, and the order of its entries
 unfoldable pub formRows : List ℕ → List Row
@@ -50,17 +34,17 @@ formRows c =
 -- TESTS 26 TO 28
 
 -- entry i has the hash
-unfoldable pub hasHash : List ℕ → ℕ → ℕ → Cond
-hasHash c h i = hashNumber c i ≡? h
+unfoldable pub hasHash : List ℕ → List ℕ → ℕ → Cond
+hasHash c h i = order (hashAt c i) h ≡? equal
 
 -- the entry that has the hash; the number of entries where none has
-unfoldable pub entryOf : List ℕ → ℕ → ℕ
+unfoldable pub entryOf : List ℕ → List ℕ → ℕ
 entryOf c h = lowest (hasHash c h) (entryCount c)
 
 -- the directory's entry, its hash type and its category
-unfoldable pub lookupRows : List ℕ → ℕ → List Row
-lookupRows c h =
+unfoldable pub lookupRows : List ℕ → ℕ → List ℕ → List Row
+lookupRows c kind h =
     row 26 (entryOf c h ≡? entryCount c) 0
-    ∷ row 27 (hashTypeAt c (entryOf c h) ≢? sha256Type) (entryOf c h)
+    ∷ row 27 (hashTypeAt c (entryOf c h) ≢? kind) (entryOf c h)
     ∷ row 28 (highestCategory <? categoryAt c (entryOf c h)) (categoryAt c (entryOf c h))
     ∷ []

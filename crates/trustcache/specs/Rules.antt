@@ -5,11 +5,11 @@ use mathlib.Core.List.{List}
 use mathlib.Core.Logic.{_⊎_, _↔_}
 use mathlib.Core.Path.{_≡_}
 use lib.ListN.{length}
-use Rattle.layout.specs.CodeDirectory.{sha256Type}
-use Rattle.layout.specs.TrustCache.{versionTaken, cacheHead, entrySize, cacheVersion, entryCount, hashTypeAt, categoryAt}
+use Rattle.layout.specs.TrustCache.{versionTaken, cacheHead, entrySize, cdhashLength, cacheVersion, entryCount, hashAt, hashTypeAt, categoryAt}
 use Rattle.refusals.specs.Refusals.{Passes}
 use Rattle.trustcache.specs.declared.launch.Launch.{Launch}
-use Rattle.trustcache.specs.Rows.{mostEntries, hashNumber, entryOf}
+use Rattle.trustcache.specs.Order.{Below}
+use Rattle.trustcache.specs.Rows.{mostEntries, entryOf}
 use Rattle.trustcache.specs.Launch.{unconstrainedCategory, constrainedCategory, launchTypeAsked, validationAsked}
 use Rattle.trustcache.specs.Table.{cacheRows}
 
@@ -19,8 +19,8 @@ pub record CacheFormed (c : List ℕ) : Type 0 where
   pub version-two : cacheVersion c ≡ versionTaken
   pub few-entries : entryCount c ≤ mostEntries
   pub whole : length c ≡ cacheHead + entrySize * entryCount c
-  -- strictly increasing, for every two entries
-  pub increasing : (i j : ℕ) → i < j → j < entryCount c → hashNumber c i < hashNumber c j
+  -- strictly increasing by their bytes, for every two entries
+  pub increasing : (i j : ℕ) → i < j → j < entryCount c → Below (hashAt c i) (hashAt c j)
 
 -- the launch meets the self and the parent constraint
 pub record Constrained (facts : Launch) : Type 0 where
@@ -33,15 +33,15 @@ pub record Constrained (facts : Launch) : Type 0 where
 abbrev pub Allowed : ℕ → Launch → Type 0
 Allowed category facts = (category ≡ unconstrainedCategory) ⊎ ((category ≡ constrainedCategory) × Constrained facts)
 
--- an entry of a well-formed cache lists the hash h under SHA-256, and its category allows the launch
-pub record Listed (c : List ℕ) (h : ℕ) (facts : Launch) (entry : ℕ) : Type 0 where
+-- an entry of a well-formed cache lists the hash h, byte for byte, under its kind, and its category allows the launch
+pub record Listed (c : List ℕ) (kind : ℕ) (h : List ℕ) (facts : Launch) (entry : ℕ) : Type 0 where
   pub form : CacheFormed c
   pub below : entry < entryCount c
-  pub hash : hashNumber c entry ≡ h
-  pub type : hashTypeAt c entry ≡ sha256Type
+  pub hash : hashAt c entry ≡ h
+  pub type : hashTypeAt c entry ≡ kind
   pub constraints : Allowed (categoryAt c entry) facts
 
--- tests 24 to 30 pass exactly where the entry that the search finds is so listed, and no other entry is
+-- tests 24 to 30 of a hash of 20 bytes pass exactly where the entry that the search finds is so listed, and no other entry is
 abbrev pub ListedExactly : Type 0
-ListedExactly = (c : List ℕ) (h : ℕ) (facts : Launch)
-    → (Passes (cacheRows c h facts) ↔ Listed c h facts (entryOf c h)) × ((entry : ℕ) → Listed c h facts entry → entryOf c h ≡ entry)
+ListedExactly = (c : List ℕ) (kind : ℕ) (h : List ℕ) (facts : Launch) → length h ≡ cdhashLength
+    → (Passes (cacheRows c kind h facts) ↔ Listed c kind h facts (entryOf c h)) × ((entry : ℕ) → Listed c kind h facts entry → entryOf c h ≡ entry)

@@ -9,9 +9,9 @@ use Rattle.trustcache.specs.Rows.{formRows, entryOf, lookupRows}
 use Rattle.trustcache.specs.Launch.{launchRows}
 
 -- the cache's form, the directory's entry, and the constraints of that entry's category
-unfoldable pub cacheRows : List ℕ → ℕ → Launch → List Row
-cacheRows c h facts = formRows c ++ (lookupRows c h ++ launchRows (categoryAt c (entryOf c h)) facts)
+unfoldable pub cacheRows : List ℕ → ℕ → List ℕ → Launch → List Row
+cacheRows c kind h facts = formRows c ++ (lookupRows c kind h ++ launchRows (categoryAt c (entryOf c h)) facts)
 
 -- the answer: the place of a 0 is the entry
-abbrev pub cacheAnswer : List ℕ → ℕ → Launch → Answer
-cacheAnswer c h facts = first (cacheRows c h facts) (refuse 0 (entryOf c h))
+abbrev pub cacheAnswer : List ℕ → ℕ → List ℕ → Launch → Answer
+cacheAnswer c kind h facts = first (cacheRows c kind h facts) (refuse 0 (entryOf c h))

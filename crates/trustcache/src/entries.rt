@@ -5,7 +5,8 @@ use layout::cache::hash_of;
 use refusals::Answer;
 ghost use mathlib.Core.Path.{_≡_};
 ghost use Rattle.refusals.specs.Refusals.{holds, lowest, first, accepted};
-ghost use Rattle.trustcache.specs.Rows.{asNumber, order, notAbove, formRows};
+ghost use Rattle.trustcache.specs.Order.{order};
+ghost use Rattle.trustcache.specs.Rows.{notAbove, formRows};
 
 // The most entries that a cache may have.
 const MOST_ENTRIES: usize = 65536;
@@ -19,7 +20,7 @@ pub const ABOVE: usize = 2;
 
 // How the hash x stands to the hash y. The first byte that differs decides.
 pub fn compare(x: &[u8], y: &[u8]) -> usize
-    ensures { λ r. ⌜ r ≡ order (asNumber (now (x .entry))) (asNumber (now (y .entry))) ⌝ }
+    ensures { λ r. ⌜ r ≡ order (now (x .entry)) (now (y .entry)) ⌝ }
 {
     let mut i = 0;
     while i < CacheEntry::HASH {

@@ -14,18 +14,17 @@ use layout::cache::CacheEntry;
 use refusals::Answer;
 use search::lookup_tested;
 ghost use mathlib.Core.Path.{_≡_};
-ghost use Rattle.trustcache.specs.Rows.{asNumber};
 ghost use Rattle.trustcache.specs.Table.{cacheAnswer};
 
-// Tests 24 to 30, of the directory whose hash begins with these 20 bytes. The place of a 0 is the directory's entry.
-pub fn tested(c: &[u8], hash: [u8; 20], facts: Launch) -> Answer
-    ensures { λ r. ⌜ r ≡ cacheAnswer (now (c .entry)) (asNumber hash) facts ⌝ }
+// Tests 24 to 30, of the directory whose hash, by its kind, begins with these 20 bytes. The place of a 0 is the directory's entry.
+pub fn tested(c: &[u8], kind: usize, hash: [u8; 20], facts: Launch) -> Answer
+    ensures { λ r. ⌜ r ≡ cacheAnswer (now (c .entry)) kind hash facts ⌝ }
 {
     let form = form_tested(c);
     if form.number != 0 {
         return form;
     }
-    let found = lookup_tested(c, hash);
+    let found = lookup_tested(c, kind, hash);
     if found.number != 0 {
         return found;
     }

@@ -5,9 +5,7 @@ use super::entries::compare;
 use layout::cache::CacheEntry;
 use layout::cache::CacheHead;
 use layout::cache::hash_of;
-use layout::directory::CodeDirectory;
 use refusals::Answer;
-ghost use Rattle.trustcache.specs.Rows.{asNumber};
 ghost use Rattle.trustcache.specs.Lookup.{EntryFound, LookupAnswer};
 
 // The highest constraint category.
@@ -15,7 +13,7 @@ const HIGHEST_CATEGORY: usize = 1;
 
 // The entry that has the hash, or the number of entries where none has, by halving what is left of the entries.
 fn find_entry(c: &[u8], hash: [u8; 20]) -> usize
-    ensures { λ r. ⌜ EntryFound (now (c .entry)) (asNumber hash) r ⌝ }
+    ensures { λ r. ⌜ EntryFound (now (c .entry)) hash r ⌝ }
 {
     let entries = CacheHead::read(c).entries;
     let mut low = 0;
@@ -35,9 +33,9 @@ fn find_entry(c: &[u8], hash: [u8; 20]) -> usize
     entries
 }
 
-// Tests 26 to 28. The place of a 0 is the entry. In a cache that 24 or 25 refuses, which entry is found is left open.
-pub fn lookup_tested(c: &[u8], hash: [u8; 20]) -> Answer
-    ensures { λ r. ⌜ LookupAnswer (now (c .entry)) (asNumber hash) r ⌝ }
+// Tests 26 to 28, of a directory of this hash kind. The place of a 0 is the entry. In a cache that 24 or 25 refuses, which entry is found is left open.
+pub fn lookup_tested(c: &[u8], kind: usize, hash: [u8; 20]) -> Answer
+    ensures { λ r. ⌜ LookupAnswer (now (c .entry)) kind hash r ⌝ }
 {
     let head = CacheHead::read(c);
     let found = find_entry(c, hash);
@@ -48,7 +46,7 @@ pub fn lookup_tested(c: &[u8], hash: [u8; 20]) -> Answer
         };
     }
     let entry = CacheEntry::read(c, found);
-    if entry.hash_type != CodeDirectory::SHA256 {
+    if entry.hash_type != kind {
         return Answer {
             number: 27,
             place: found,

@@ -1,4 +1,6 @@
 -- Each group of tests is one call. A refusal stands before all later groups, and where it passes the next decides.
+use native.Mathlib.Omega.{arith}
+use Rattle.directory.proofs.Formed.{kind-known}
 use Rattle.admission.proofs.Tests.{formed-stops, sized-stops, matched-stops, matched-goes}
 use borrow.Author.Needs.{needs}
 use Rattle.admission.proofs.check_tested.Statement.{statement}
@@ -28,14 +30,17 @@ tested-requires-2 c κs = search needs
 returns-3 : tie.Need-returns-3
 returns-3 c = matched-stops _ _ _ _ (c .before .before .before .before .before .before .before .before .before .before .longest-side .ensures) _ (c .before .before .before .before .before .before .before .before .before .tested .ensures) (c .before .before .before .before .before .before .before .if1 .left) _ (c .before .before .before .before .before .before .blob-of .ensures) _ (c .before .before .before .before .before .sizes-tested .ensures) (c .before .before .before .if2 .left) _ (c .before .before .tested2 .ensures) (c .if3 .taken)
 
+read-requires : tie.Need-read-requires
+read-requires c κs = search needs
+
 cdhash-requires : tie.Need-cdhash-requires
-cdhash-requires c κs = search needs
+cdhash-requires c κs = kind-known _ _ _ _ (c .before .before .before .before .before .before .before .before .before .before .tested .ensures) (c .before .before .before .before .before .before .before .before .if1 .left) (c .before .before .before .before .before .before .before .blob-of .ensures)
 
 tested-requires-3 : tie.Need-tested-requires-3
 tested-requires-3 c κs = search needs
 
 returns-4 : tie.Need-returns-4
-returns-4 c = matched-goes _ _ _ _ (c .before .before .before .before .before .before .before .before .before .before .before .before .longest-side .ensures) _ (c .before .before .before .before .before .before .before .before .before .before .before .tested .ensures) (c .before .before .before .before .before .before .before .before .before .if1 .left) _ (c .before .before .before .before .before .before .before .before .blob-of .ensures) _ (c .before .before .before .before .before .before .before .sizes-tested .ensures) (c .before .before .before .before .before .if2 .left) _ (c .before .before .before .before .tested2 .ensures) (c .before .before .if3 .left) _ _ (c .before .cdhash .ensures) (c .tested3 .ensures)
+returns-4 c = matched-goes _ _ _ _ (c .before .before .before .before .before .before .before .before .before .before .before .before .before .longest-side .ensures) _ (c .before .before .before .before .before .before .before .before .before .before .before .before .tested .ensures) (c .before .before .before .before .before .before .before .before .before .before .if1 .left) _ (c .before .before .before .before .before .before .before .before .before .blob-of .ensures) _ (c .before .before .before .before .before .before .before .before .sizes-tested .ensures) (c .before .before .before .before .before .before .if2 .left) _ (c .before .before .before .before .before .tested2 .ensures) (c .before .before .before .if3 .left) _ _ _ (omega (arith, c .before .before .read .ensures .hashType-is)) (c .before .cdhash .ensures) (c .tested3 .ensures)
 
 pub check-tested-spec : {M : Type 1} → statement M
 check-tested-spec =
@@ -49,6 +54,7 @@ check-tested-spec =
     returns-2
     tested-requires-2
     returns-3
+    read-requires
     cdhash-requires
     tested-requires-3
     returns-4)

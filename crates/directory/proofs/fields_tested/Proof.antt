@@ -5,6 +5,7 @@ use mathlib.Core.Logic.{_⊎_, inl, inr, ⊎-elim}
 use native.Mathlib.Omega.{arith}
 use lib.Bits.{bitOr}
 use Rattle.refusals.specs.Refusals.{accepted}
+use Rattle.refusals.proofs.Conditions.{held, fell}
 use Rattle.refusals.proofs.Exact.{decides, passes}
 use Rattle.layout.specs.CodeDirectory.{allowedFlags}
 use Rattle.directory.specs.Rows.{fieldRows}
@@ -60,6 +61,9 @@ limit64-of-requires c κs = search needs
 scatter-of-requires : tie.Need-scatter-of-requires
 scatter-of-requires c κs = search needs
 
+hash-outside-requires : tie.Need-hash-outside-requires
+hash-outside-requires c κs = search needs
+
 answer-requires-4 : tie.Need-answer-requires-4
 answer-requires-4 c κs = search needs
 
@@ -67,10 +71,8 @@ returns-4 : tie.Need-returns-4
 unfolding fieldRows
 returns-4 c =
     let known = version-known _ _ (c .before .before .before .before .before .before .before .before .head-of .ensures .0) (c .before .before .before .before .before .before .before .if2 .left) in
-    c .answer4 .ensures ∙ decides _ accepted _ _ (omega arith)
-
-slot-width-requires : tie.Need-slot-width-requires
-slot-width-requires c κs = search needs
+    let hash = held _ _ (c .before .before .hash-outside .ensures) (c .before .if4 .taken) in
+    c .answer4 .ensures ∙ decides _ accepted _ _ (omega arith, (omega arith, (hash, refl)))
 
 answer-requires-5 : tie.Need-answer-requires-5
 answer-requires-5 c κs = search needs
@@ -78,8 +80,10 @@ answer-requires-5 c κs = search needs
 returns-5 : tie.Need-returns-5
 unfolding fieldRows
 returns-5 c =
-    let known = version-known _ _ (c .before .before .before .before .before .before .before .before .before .before .before .head-of .ensures .0) (c .before .before .before .before .before .before .before .before .before .before .if2 .left) in
-    c .answer5 .ensures ∙ decides _ accepted _ _ (omega arith)
+    let known = version-known _ _ (c .before .before .before .before .before .before .before .before .before .head-of .ensures .0) (c .before .before .before .before .before .before .before .before .if2 .left) in
+    let hash = fell _ _ (c .before .before .before .hash-outside .ensures) (c .before .before .if4 .left) in
+    let k = none-of _ (c .before .match .rest .1) in
+    c .answer5 .ensures ∙ decides _ accepted _ _ (omega arith, (omega arith, (hash, omega arith)))
 
 answer-requires-6 : tie.Need-answer-requires-6
 answer-requires-6 c κs = search needs
@@ -87,9 +91,10 @@ answer-requires-6 c κs = search needs
 returns-6 : tie.Need-returns-6
 unfolding fieldRows
 returns-6 c =
-    let known = version-known _ _ (c .before .before .before .before .before .before .before .before .before .before .before .before .head-of .ensures .0) (c .before .before .before .before .before .before .before .before .before .before .before .if2 .left) in
-    let k = none-of _ (c .before .match .rest .1) in
-    c .answer6 .ensures ∙ decides _ accepted _ _ (omega arith)
+    let known = version-known _ _ (c .before .before .before .before .before .before .before .before .before .before .head-of .ensures .0) (c .before .before .before .before .before .before .before .before .before .if2 .left) in
+    let joined = same-join _ _ (c .before .before .before .before .before .before .before .read .ensures .flags-is) in
+    let hash = fell _ _ (c .before .before .before .before .hash-outside .ensures) (c .before .before .before .if4 .left) in
+    by-shift _ (λ e. c .answer6 .ensures ∙ decides _ accepted _ _ (omega arith, (omega arith, (hash, omega arith)))) (λ e. c .answer6 .ensures ∙ decides _ accepted _ _ (omega arith, (omega arith, (hash, omega arith)))) (λ e. c .answer6 .ensures ∙ decides _ accepted _ _ (omega arith, (omega arith, (hash, omega arith)))) (c .before .before .match .keys1)
 
 answer-requires-7 : tie.Need-answer-requires-7
 answer-requires-7 c κs = search needs
@@ -97,9 +102,10 @@ answer-requires-7 c κs = search needs
 returns-7 : tie.Need-returns-7
 unfolding fieldRows
 returns-7 c =
-    let known = version-known _ _ (c .before .before .before .before .before .before .before .before .before .before .before .before .before .head-of .ensures .0) (c .before .before .before .before .before .before .before .before .before .before .before .before .if2 .left) in
-    let joined = same-join _ _ (c .before .before .before .before .before .before .before .before .before .before .read .ensures .flags-is) in
-    by-shift _ (λ e. c .answer7 .ensures ∙ decides _ accepted _ _ (omega arith)) (λ e. c .answer7 .ensures ∙ decides _ accepted _ _ (omega arith)) (λ e. c .answer7 .ensures ∙ decides _ accepted _ _ (omega arith)) (c .before .before .match .keys1)
+    let known = version-known _ _ (c .before .before .before .before .before .before .before .before .before .before .before .head-of .ensures .0) (c .before .before .before .before .before .before .before .before .before .before .if2 .left) in
+    let joined = same-join _ _ (c .before .before .before .before .before .before .before .before .read .ensures .flags-is) in
+    let hash = fell _ _ (c .before .before .before .before .before .hash-outside .ensures) (c .before .before .before .before .if4 .left) in
+    by-shift _ (λ e. c .answer7 .ensures ∙ decides _ accepted _ _ (omega arith, (omega arith, (hash, omega arith)))) (λ e. c .answer7 .ensures ∙ decides _ accepted _ _ (omega arith, (omega arith, (hash, omega arith)))) (λ e. c .answer7 .ensures ∙ decides _ accepted _ _ (omega arith, (omega arith, (hash, omega arith)))) (c .before .before .before .match .keys1)
 
 answer-requires-8 : tie.Need-answer-requires-8
 answer-requires-8 c κs = search needs
@@ -107,9 +113,10 @@ answer-requires-8 c κs = search needs
 returns-8 : tie.Need-returns-8
 unfolding fieldRows
 returns-8 c =
-    let known = version-known _ _ (c .before .before .before .before .before .before .before .before .before .before .before .before .before .before .head-of .ensures .0) (c .before .before .before .before .before .before .before .before .before .before .before .before .before .if2 .left) in
-    let joined = same-join _ _ (c .before .before .before .before .before .before .before .before .before .before .before .read .ensures .flags-is) in
-    by-shift _ (λ e. c .answer8 .ensures ∙ decides _ accepted _ _ (omega arith)) (λ e. c .answer8 .ensures ∙ decides _ accepted _ _ (omega arith)) (λ e. c .answer8 .ensures ∙ decides _ accepted _ _ (omega arith)) (c .before .before .before .match .keys1)
+    let known = version-known _ _ (c .before .before .before .before .before .before .before .before .before .before .before .before .head-of .ensures .0) (c .before .before .before .before .before .before .before .before .before .before .before .if2 .left) in
+    let joined = same-join _ _ (c .before .before .before .before .before .before .before .before .before .read .ensures .flags-is) in
+    let hash = fell _ _ (c .before .before .before .before .before .before .hash-outside .ensures) (c .before .before .before .before .before .if4 .left) in
+    by-shift _ (λ e. c .answer8 .ensures ∙ decides _ accepted _ _ (omega arith, (omega arith, (hash, omega arith)))) (λ e. c .answer8 .ensures ∙ decides _ accepted _ _ (omega arith, (omega arith, (hash, omega arith)))) (λ e. c .answer8 .ensures ∙ decides _ accepted _ _ (omega arith, (omega arith, (hash, omega arith)))) (c .before .before .before .before .match .keys1)
 
 answer-requires-9 : tie.Need-answer-requires-9
 answer-requires-9 c κs = search needs
@@ -117,19 +124,10 @@ answer-requires-9 c κs = search needs
 returns-9 : tie.Need-returns-9
 unfolding fieldRows
 returns-9 c =
-    let known = version-known _ _ (c .before .before .before .before .before .before .before .before .before .before .before .before .before .before .before .head-of .ensures .0) (c .before .before .before .before .before .before .before .before .before .before .before .before .before .before .if2 .left) in
-    let joined = same-join _ _ (c .before .before .before .before .before .before .before .before .before .before .before .before .read .ensures .flags-is) in
-    by-shift _ (λ e. c .answer9 .ensures ∙ decides _ accepted _ _ (omega arith)) (λ e. c .answer9 .ensures ∙ decides _ accepted _ _ (omega arith)) (λ e. c .answer9 .ensures ∙ decides _ accepted _ _ (omega arith)) (c .before .before .before .before .match .keys1)
-
-answer-requires-10 : tie.Need-answer-requires-10
-answer-requires-10 c κs = search needs
-
-returns-10 : tie.Need-returns-10
-unfolding fieldRows
-returns-10 c =
-    let known = version-known _ _ (c .before .before .before .before .before .before .before .before .before .before .before .before .before .before .before .head-of .ensures .0) (c .before .before .before .before .before .before .before .before .before .before .before .before .before .before .if2 .left) in
-    let joined = same-join _ _ (c .before .before .before .before .before .before .before .before .before .before .before .before .read .ensures .flags-is) in
-    by-shift _ (λ e. c .answer10 .ensures ∙ passes _ accepted (omega arith)) (λ e. c .answer10 .ensures ∙ passes _ accepted (omega arith)) (λ e. c .answer10 .ensures ∙ passes _ accepted (omega arith)) (c .before .before .before .before .match .keys1)
+    let known = version-known _ _ (c .before .before .before .before .before .before .before .before .before .before .before .before .head-of .ensures .0) (c .before .before .before .before .before .before .before .before .before .before .before .if2 .left) in
+    let joined = same-join _ _ (c .before .before .before .before .before .before .before .before .before .read .ensures .flags-is) in
+    let hash = fell _ _ (c .before .before .before .before .before .before .hash-outside .ensures) (c .before .before .before .before .before .if4 .left) in
+    by-shift _ (λ e. c .answer9 .ensures ∙ passes _ accepted (omega arith, (omega arith, (hash, omega arith)))) (λ e. c .answer9 .ensures ∙ passes _ accepted (omega arith, (omega arith, (hash, omega arith)))) (λ e. c .answer9 .ensures ∙ passes _ accepted (omega arith, (omega arith, (hash, omega arith)))) (c .before .before .before .before .match .keys1)
 
 pub fields-tested-spec : {M : Type 1} → statement M
 fields-tested-spec =
@@ -145,9 +143,9 @@ fields-tested-spec =
     read-requires
     limit64-of-requires
     scatter-of-requires
+    hash-outside-requires
     answer-requires-4
     returns-4
-    slot-width-requires
     answer-requires-5
     returns-5
     answer-requires-6
@@ -157,6 +155,4 @@ fields-tested-spec =
     answer-requires-8
     returns-8
     answer-requires-9
-    returns-9
-    answer-requires-10
-    returns-10)
+    returns-9)

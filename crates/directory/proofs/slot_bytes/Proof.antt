@@ -20,7 +20,7 @@ slot-bytes-requires c κs = fits-word _ _ (omega arith)
 returns : tie.Need-returns
 unfolding slotWidth
 returns c = (
-  c .slot-bytes .ensures ∙ ap (λ (k : ℕ). widthOf k * c .before .before .before .args .n) (c .before .read .ensures .hashType-is),
+  c .slot-bytes .ensures ∙ ap (λ (k : ℕ). widthOf k * c .before .before .before .args .n) (omega (arith, c .before .read .ensures .hashType-is)),
   omega (arith, c .slot-bytes .ensures, slots-below (c .before .read .result .«hash_type») (c .before .before .before .args .n) (omega arith)),
 )
 

@@ -1,24 +1,18 @@
 -- Each refusal is the first row that holds: the rows before it are the tests passed on the way.
-use mathlib.Core.Bool.{Bool, true, false}
-use mathlib.Core.Path.{_≡_, _∙_, sym, refl}
+use mathlib.Core.Bool.{true}
+use mathlib.Core.Path.{_∙_, refl}
 use native.Mathlib.Omega.{arith}
 use Rattle.refusals.specs.Refusals.{Cond, _or_, holds, Says, accepted}
-use Rattle.refusals.proofs.Conditions.{says, said}
+use Rattle.refusals.proofs.Conditions.{says, said, held, fell}
 use Rattle.refusals.proofs.Exact.{decides, passes}
 use Rattle.directory.specs.Rows.{slotRows, specialOutside, codeOutside}
 use borrow.Author.Needs.{needs}
 use Rattle.directory.proofs.slots_tested.Statement.{statement}
 use Rattle.directory.proofs.slots_tested.Tie as tie
 
-held : (b : Bool) (k : Cond) → b ≡ holds k → b ≡ true → Says true k
-held b k e t = said true k (sym t ∙ e)
-
 one-holds : (k l : Cond) → Says true k → Says true (k or l)
 unfolding holds
 one-holds k l h = said true (k or l) (rw (← says true k h))
-
-fell : (b : Bool) (k : Cond) → b ≡ holds k → b ≡ false → Says false k
-fell b k e t = said false k (sym t ∙ e)
 
 read-requires : tie.Need-read-requires
 read-requires c κs = search needs

@@ -6,6 +6,9 @@ use borrow.Author.Needs.{needs}
 use Rattle.slots.proofs.fault_at.Statement.{statement}
 use Rattle.slots.proofs.fault_at.Tie as tie
 
+read-requires : tie.Need-read-requires
+read-requires c κs = search needs
+
 special-slot-requires : tie.Need-special-slot-requires
 special-slot-requires c κs = search needs
 
@@ -51,6 +54,7 @@ pub fault-at-spec : {M : Type 1} → statement M
 fault-at-spec =
     tie.close
     (tie.spec
+    read-requires
     special-slot-requires
     fault-of-requires
     fault-of-requires-2

@@ -1,6 +1,7 @@
 -- The five ways of slot and thing are the five lines of `faultOf`. Assumes nothing.
-use Rattle.digest.proofs.ByKind.{kinds-plainly}
-use Rattle.slots.proofs.Laws.{fault-empty, fault-none, fault-missing, fault-agrees, fault-differs}
+use native.Mathlib.Omega.{arith}
+use mathlib.Core.Path.{_∙_}
+use Rattle.slots.proofs.Laws.{by-kind, fault-empty, fault-none, fault-missing, fault-agrees, fault-differs}
 use borrow.Author.Needs.{needs}
 use Rattle.slots.proofs.fault_of.Statement.{statement}
 use Rattle.slots.proofs.fault_of.Tie as tie
@@ -18,14 +19,10 @@ agrees-requires : tie.Need-agrees-requires
 agrees-requires c κs = search needs
 
 returns-3 : tie.Need-returns-3
-returns-3 c =
-    let k = kinds-plainly .by-sha256 (c .before .before .before .before .before .before .before .args .thing .now) in
-    fault-agrees _ _ _ (cc) (cc) (cc)
+returns-3 c = fault-agrees _ _ _ (cc) (cc) (by-kind _ _ _ _ _ (omega arith) (c .before .agrees .ensures) ∙ c .if4 .taken)
 
 returns-4 : tie.Need-returns-4
-returns-4 c =
-    let k = kinds-plainly .by-sha256 (c .before .before .before .before .before .before .before .args .thing .now) in
-    fault-differs _ _ _ (cc) (cc) (cc)
+returns-4 c = fault-differs _ _ _ (cc) (cc) (by-kind _ _ _ _ _ (omega arith) (c .before .agrees .ensures) ∙ c .if4 .left)
 
 returns-5 : tie.Need-returns-5
 returns-5 c = fault-missing _ _ _ (cc) (cc)

@@ -2,6 +2,7 @@
 use mathlib.Core.Path.{ap, _∙_}
 use native.Mathlib.Omega.{arith}
 use borrow.Author.Needs.{needs}
+use Rattle.directory.proofs.Formed.{kind-known}
 use Rattle.cdhash.specs.Hash.{cdhash}
 use Rattle.trewizlow.specs.Interface.{hashWith}
 use Rattle.trewizlow.proofs.Laws.{hash-read, hash-refused}
@@ -18,7 +19,7 @@ blob-of-requires : tie.Need-blob-of-requires
 blob-of-requires c κs = search needs
 
 cdhash-requires : tie.Need-cdhash-requires
-cdhash-requires c κs = search needs
+cdhash-requires c κs = kind-known _ _ _ _ (c .before .before .before .tested .ensures) (omega arith) (c .blob-of .ensures)
 
 returns-2 : tie.Need-returns-2
 returns-2 c =

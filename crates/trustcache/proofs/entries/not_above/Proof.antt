@@ -1,6 +1,6 @@
--- What `compare` says of the two hashes is what it says of their numbers.
+-- What `compare` says of the two hashes that it is lent it says of the entries.
 use native.Mathlib.Omega.{arith}
-use Rattle.trustcache.proofs.Order.{compared-both, first-is-above, is-above, is-not-above}
+use Rattle.trustcache.proofs.Order.{first-is-above, is-above, is-not-above}
 use borrow.Author.Needs.{needs}
 use Rattle.trustcache.proofs.entries.not_above.Statement.{statement}
 use Rattle.trustcache.proofs.entries.not_above.Tie as tie
@@ -21,10 +21,10 @@ compare-requires : tie.Need-compare-requires
 compare-requires c κs = search needs
 
 returns-2 : tie.Need-returns-2
-returns-2 c = is-above _ _ _ (compared-both _ _ _ _ _ _ (c .before .before .before .hash-of .ensures) (c .before .before .hash-of2 .ensures) (c .before .compare .ensures)) (c .if2 .taken)
+returns-2 c = is-above _ _ _ _ _ (c .before .before .before .hash-of .ensures) (c .before .before .hash-of2 .ensures) (c .before .compare .ensures) (c .if2 .taken)
 
 returns-3 : tie.Need-returns-3
-returns-3 c = is-not-above _ _ _ (compared-both _ _ _ _ _ _ (c .before .before .before .hash-of .ensures) (c .before .before .hash-of2 .ensures) (c .before .compare .ensures)) (omega arith) (c .if2 .left)
+returns-3 c = is-not-above _ _ _ _ _ (c .before .before .before .hash-of .ensures) (c .before .before .hash-of2 .ensures) (c .before .compare .ensures) (omega arith) (c .if2 .left)
 
 pub not-above-spec : {M : Type 1} → statement M
 not-above-spec =

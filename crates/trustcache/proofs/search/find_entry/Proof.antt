@@ -2,14 +2,12 @@
 use borrow.Author.Needs.{needs}
 use native.Mathlib.Omega.{arith}
 use Prim.Native.Nat.{_-_}
-use Rattle.trustcache.specs.Rows.{asNumber}
-use Rattle.trustcache.proofs.Order.{compared}
 use Rattle.trustcache.proofs.Lookup.{Searching, search-all, search-below, search-above, search-found, search-none}
 use Rattle.trustcache.proofs.search.find_entry.Statement.{statement}
 use Rattle.trustcache.proofs.search.find_entry.Tie as tie
 
 abbrev Inv-loop : tie.InvT-loop
-Inv-loop c hash entries low₀ high₀ low high = Searching c (asNumber hash) low high
+Inv-loop c hash entries low₀ high₀ low high = Searching c hash low high
 
 abbrev μ-loop : tie.MeasureT-loop
 μ-loop c hash entries low₀ high₀ low high = high - low
@@ -39,8 +37,7 @@ returns : tie.Need-returns Inv-loop μ-loop
 returns c =
     let d = c .before in
     let b = d .before .before .before .before in
-    let o = compared _ _ _ _ _ (d .before .before .hash-of .ensures) (d .compare .ensures) in
-    search-found _ _ _ _ (b .loop .inv) (omega arith) (o .equal (c .if1 .taken))
+    search-found _ _ _ _ (b .loop .inv) (omega arith) _ _ (d .before .before .hash-of .ensures) (d .compare .ensures) (c .if1 .taken)
 
 add-low : tie.Need-add-low Inv-loop μ-loop
 add-low c = omega arith
@@ -52,8 +49,7 @@ loop-again : tie.Need-loop-again Inv-loop μ-loop
 loop-again c =
     let d = c .before .before in
     let b = d .before .before .before .before in
-    let o = compared _ _ _ _ _ (d .before .before .hash-of .ensures) (d .compare .ensures) in
-    search-below _ _ _ _ (b .loop .inv) (omega arith) (o .below (c .if2 .taken))
+    search-below _ _ _ _ (b .loop .inv) (omega arith) _ _ (d .before .before .hash-of .ensures) (d .compare .ensures) (c .if2 .taken)
 
 loop-less-2 : tie.Need-loop-less-2 Inv-loop μ-loop
 loop-less-2 c = omega arith
@@ -62,8 +58,7 @@ loop-again-2 : tie.Need-loop-again-2 Inv-loop μ-loop
 loop-again-2 c =
     let d = c .before .before in
     let b = d .before .before .before .before in
-    let o = compared _ _ _ _ _ (d .before .before .hash-of .ensures) (d .compare .ensures) in
-    search-above _ _ _ _ (b .loop .inv) (omega arith) (o .above (omega (arith, o .small)))
+    search-above _ _ _ _ (b .loop .inv) (omega arith) _ _ (d .before .before .hash-of .ensures) (d .compare .ensures) (omega arith) (omega arith)
 
 returns-2 : tie.Need-returns-2 Inv-loop μ-loop
 returns-2 c = search-none _ _ _ _ _ (c .before .loop .inv) (omega arith) (c .before .before .read .ensures .entries-is)
