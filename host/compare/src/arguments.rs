@@ -8,12 +8,12 @@ compares answers, marks, lookups, fields, hashes and chains of rechecks.
 
   --cases N   how many cases (default 10000)
   --seed N    the seed; case n of a seed is the same in every run (default 1)
-  --case N    run case N of the seed alone, and do not ask for every number
+  --case N    run case N of the seed alone, and do not ask for every number and kind
 
 Prints how often each number was answered, and how many cases there were of each hash
-kind. Exit status 0 where all agree and every number of the table was answered, 1 where
-not, 2 usage error. The first difference is printed, and its input kept in a file in the
-current directory.
+kind. Exit status 0 where all agree, every number of the table was answered and every
+hash kind was there, 1 where not, 2 usage error. The first difference is printed, and its
+input kept in a file in the current directory.
 ";
 
 pub struct Arguments {

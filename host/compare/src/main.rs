@@ -67,12 +67,22 @@ fn compare(arguments: &Arguments) -> Result<(), String> {
         counts.calls,
         start.elapsed().as_secs_f64()
     );
-    match counts.missing() {
-        missing if !missing.is_empty() && arguments.only.is_none() => {
-            Err(format!("no call answered {missing:?}"))
-        }
-        _ => Ok(()),
+    if arguments.only.is_some() {
+        return Ok(());
     }
+    reached(&counts)
+}
+
+/// Every number was answered, and every hash kind was there.
+fn reached(counts: &Counts) -> Result<(), String> {
+    let (numbers, kinds) = (counts.missing(), counts.missing_kinds());
+    if !numbers.is_empty() {
+        return Err(format!("no call answered {numbers:?}"));
+    }
+    if !kinds.is_empty() {
+        return Err(format!("no case was of kind {kinds:?}"));
+    }
+    Ok(())
 }
 
 fn main() -> ExitCode {

@@ -3,6 +3,7 @@
 use std::collections::BTreeMap;
 
 use reference::answer::NUMBERS;
+use reference::kinds::KINDS;
 use reference::random::Random;
 use reference::recheck::Range;
 
@@ -16,7 +17,8 @@ use crate::scene::{random_of, Scene};
 const LOOKED_UP: [u32; 19] =
     [0, 1, 2, 3, 4, 5, 6, 7, 8, 9, 10, 11, 12, 0x1000, 0x1002, 0x1004, 0x1005, 0x10000, u32::MAX];
 
-/// How often each number was answered, and how many calls there were of all kinds.
+/// How often each number was answered, how many cases there were of each hash kind, and how many
+/// calls in all.
 #[derive(Clone, Debug, Default)]
 pub struct Counts {
     pub checks: BTreeMap<u32, u64>,
@@ -31,6 +33,11 @@ impl Counts {
     pub fn missing(&self) -> Vec<u32> {
         let answered = |n: &u32| self.checks.contains_key(n) || self.rechecks.contains_key(n);
         NUMBERS.into_iter().filter(|number| !answered(number)).collect()
+    }
+
+    /// The hash kinds of which there was no case.
+    pub fn missing_kinds(&self) -> Vec<u8> {
+        KINDS.into_iter().filter(|kind| !self.kinds.contains_key(kind)).collect()
     }
 }
 

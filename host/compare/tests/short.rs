@@ -1,14 +1,13 @@
 //! A short run, and what a difference looks like.
 
 use compare::{run, Difference};
-use reference::kinds::KINDS;
 
 #[test]
 fn library_and_reference_agree() {
     match run(2, 2_000, |_| {}) {
         Ok(counts) => {
             assert_eq!(counts.missing(), [0u32; 0], "numbers that no call answered");
-            assert!(counts.kinds.keys().eq(&KINDS), "{:?}", counts.kinds);
+            assert_eq!(counts.missing_kinds(), [0u8; 0], "hash kinds of which there was no case");
         }
         Err(difference) => panic!("{}{}", difference.text(), difference.input),
     }

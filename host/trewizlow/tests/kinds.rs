@@ -6,7 +6,7 @@ mod scratch;
 use std::fs;
 
 use reference::make::Slot;
-use scratch::{check, noted, recheck, refused_by_all, run, sample, with_directory, Scratch};
+use scratch::{check, recheck, refused_by_all, run, sample, with_directory, Scratch};
 
 /// hashType, its name, and the bytes of a slot.
 const KINDS: [(u8, &str, usize); 4] =
@@ -15,6 +15,11 @@ const KINDS: [(u8, &str, usize); 4] =
 const WARNING: &str = "the directory's hashes are SHA-1, which is weak against collisions: \
     whoever made the image may hold another one with the same hashes; a check says only that \
     the hashes agree";
+
+/// Standard error with the warning.
+fn warned() -> String {
+    format!("trewizlow: warning: {WARNING}\n")
+}
 
 fn hex(slot: &Slot) -> String {
     slot.iter().map(|byte| format!("{byte:02x}")).collect()
@@ -34,7 +39,7 @@ fn show_names_the_kind_and_cuts_its_slots() {
         assert!(directory.code.iter().chain(&directory.special).all(|slot| slot.len() == width));
         let signature = scratch.file("signature", &plan.build().signature);
         let (status, out, err) = run(&["show", &signature]);
-        assert_eq!(err, if kind == 1 { noted(WARNING) } else { String::new() });
+        assert_eq!(err, if kind == 1 { warned() } else { String::new() });
         let line = format!("  hash type      {kind} ({name}), {width} bytes a slot\n");
         assert!(status == 0 && out.contains(&line), "{out}");
         for (i, slot) in directory.code.iter().enumerate() {
@@ -73,11 +78,27 @@ fn answered(signature: &str, entry: usize, note: &str) {
     assert_eq!((status, err.as_str()), (0, note));
 }
 
+/// What a check and a recheck of the sample's image print with `--json`.
+fn as_json(signature: &str) -> [String; 2] {
+    let scratch = Scratch::new(&format!("json-{signature}"));
+    let (signature, image) = (sample(signature), sample("image.bin"));
+    let cache = sample("cache.bin");
+    let page = scratch.file("page", &fs::read(&image).unwrap()[..4096]);
+    let marks = scratch.file("marks", &[1, 0, 0]);
+    let checked = [&check(&signature, &image, &cache)[..], &["--json"]].concat();
+    let rechecked = [&recheck(&signature, ["0", "1"], &page, &marks)[..], &["--json"]].concat();
+    [run(&checked).1, run(&rechecked).1]
+}
+
 #[test]
 fn sha1_is_warned_of() {
-    answered("signature-sha1.bin", 2, &noted(WARNING));
+    answered("signature-sha1.bin", 2, &warned());
     let (_, out, _) = run(&["show", "--json", &sample("signature-sha1.bin")]);
-    assert!(out.contains(&format!(",\"warning\":\"{WARNING}\",\"directory\":")), "{out}");
+    let member = format!(",\"warning\":\"{WARNING}\"");
+    assert!(out.contains(&format!("{member},\"directory\":")), "{out}");
+    for out in as_json("signature-sha1.bin") {
+        assert!(out.ends_with(&format!("{member}}}\n")), "{out}");
+    }
 }
 
 #[test]
@@ -86,6 +107,9 @@ fn no_other_kind_is_warned_of() {
         answered(signature, entry, "");
         let (_, out, _) = run(&["show", "--json", &sample(signature)]);
         assert!(out.contains("\"directory\":") && !out.contains("warning"), "{out}");
+        for out in as_json(signature) {
+            assert!(out.contains("\"marks_written\":") && !out.contains("warning"), "{out}");
+        }
     }
 }
 

@@ -227,7 +227,7 @@ fn random_plans(cases: &mut Vec<Case>) {
         for _ in 0..=random.below(3) {
             let k = 1 + random.below(11) as usize;
             plan.there[k] = random.below(2) == 0;
-            let wrong = State::Wrong(random.below(32) as usize);
+            let wrong = State::Wrong(random.below(width(plan.kind) as u64) as usize);
             plan.states[k] = *random.pick(&[State::Empty, State::Right, wrong]);
         }
         plan.special = (random.below(14) as usize).min(11);

@@ -35,9 +35,9 @@ fn every_fault(calls: &mut Vec<Call>) {
 fn slots(calls: &mut Vec<Call>) {
     for k in 1..=11 {
         let mut plan = full();
-        plan.directory.special[k - 1] = vec![0; 32];
+        plan.directory.special[k - 1].fill(0);
         calls.push(Call::whole(format!("check, slot {k} empty"), &plan.build(), 1));
-        plan.directory.special[k - 1] = vec![1; 32];
+        plan.directory.special[k - 1].fill(1);
         calls.push(Call::whole(format!("check, slot {k} wrong"), &plan.build(), 1));
     }
 }

@@ -9,6 +9,7 @@ use crate::command::Command;
 use crate::files::{mebibytes, notes, Input, Lent, Opened};
 use crate::help;
 use crate::json;
+use crate::kinds;
 use crate::out::Out;
 use crate::outcome::Outcome;
 use crate::progress::during;
@@ -127,13 +128,11 @@ impl Files {
     }
 }
 
-fn text(verdict: &Verdict, written: &Result<bool, String>, json: bool) -> String {
-    if !json {
-        return format!("{verdict}\n");
-    }
+fn as_json(verdict: &Verdict, written: &Result<bool, String>, signature: &[u8]) -> String {
     let accepted = ("accepted", verdict.accepted().to_string());
     let mut members = json::answer(verdict.number, verdict.place, accepted, &verdict.sentence());
     members.extend(json::marks(written));
+    members.extend(kinds::warning_member(signature));
     json::object(&members) + "\n"
 }
 
@@ -148,10 +147,15 @@ fn run(arguments: &Arguments) -> Result<Outcome, String> {
         Some(out) => out.write(&marks).map(|()| true),
         None => Ok(false),
     };
+    let text = match arguments.json() {
+        true => as_json(&verdict, &written, &files.signature.bytes),
+        false => format!("{verdict}\n"),
+    };
     Ok(Outcome {
-        text: text(&verdict, &written, arguments.json()),
+        text,
         passed: verdict.accepted(),
         notes: files.notes(!verdict.accepted()),
+        warnings: kinds::warning(&files.signature.bytes).into_iter().collect(),
         failure: written.err(),
     })
 }

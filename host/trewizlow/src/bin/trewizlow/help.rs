@@ -49,7 +49,8 @@ before any is read, the image last.
   --marks OUT               write the marks, a byte a page (0 agrees, 1 differs), where
                             the answer is 0 or 31; OUT is left alone otherwise
   --json                    print an object: number, place, accepted, message,
-                            marks_written; error where the status is 2
+                            marks_written; a warning where there is one; error where
+                            the status is 2
 
 OUT is made, or replaced in one step, so that a crash leaves the old marks or the new
 ones. A file that is replaced keeps its permissions; the check waits while a recheck goes
@@ -87,8 +88,8 @@ before any is read, the pages last.
                      answer is 0 or 31: a new file takes its place in one step, so that a
                      crash leaves the old marks or the new ones
   --json             print an object: number, place, pages_agree (null where the number
-                     is neither 0 nor 31), message, marks_written; error where the status
-                     is 2
+                     is neither 0 nor 31), message, marks_written; a warning where there
+                     is one; error where the status is 2
 
 Rechecks that go on from one marks file wait for each other. The file keeps its
 permissions; behind a symbolic link the file is replaced and the link stays; under another

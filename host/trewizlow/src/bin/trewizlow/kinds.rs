@@ -1,6 +1,7 @@
 //! The hash kinds of a code directory, by its hashType.
 
 use crate::found::{bytes, is_since, FIRST_VERSION};
+use crate::json::{string, Member};
 
 struct Kind {
     number: u8,
@@ -64,6 +65,11 @@ pub fn warning(signature: &[u8]) -> Option<String> {
          agree",
         kind.name
     ))
+}
+
+/// The same as a member of an object.
+pub fn warning_member(signature: &[u8]) -> Option<Member> {
+    warning(signature).map(|words| ("warning", string(&words)))
 }
 
 #[cfg(test)]

@@ -1,4 +1,5 @@
-//! What a command comes to: text for standard output, notes for standard error, a status.
+//! What a command comes to: text for standard output, notes and
+//! warnings for standard error, a status.
 
 use std::io::{self, ErrorKind, Write};
 use std::process::ExitCode;
@@ -14,6 +15,8 @@ pub struct Outcome {
     pub passed: bool,
     /// Remarks that change nothing.
     pub notes: Vec<String>,
+    /// What the answer does not say, and whoever reads it should know.
+    pub warnings: Vec<String>,
     /// A usage or input error.
     pub failure: Option<String>,
 }
@@ -36,7 +39,7 @@ fn print(text: &str) -> Result<(), String> {
 
 impl Outcome {
     pub fn text(text: String) -> Outcome {
-        Outcome { text, passed: true, notes: Vec::new(), failure: None }
+        Outcome { text, passed: true, notes: Vec::new(), warnings: Vec::new(), failure: None }
     }
 
     /// Nothing was answered. In JSON the sentence stands on standard output too.
@@ -50,6 +53,7 @@ impl Outcome {
     pub fn report(self) -> ExitCode {
         let printed = print(&self.text);
         self.notes.iter().for_each(|note| tell(&format!("note: {note}")));
+        self.warnings.iter().for_each(|warning| tell(&format!("warning: {warning}")));
         if let Some(failure) = self.failure.or(printed.err()) {
             tell(&failure);
             return ExitCode::from(FAILED);

@@ -7,6 +7,7 @@ use crate::command::Command;
 use crate::files::{mebibytes, notes, Opened};
 use crate::help;
 use crate::json;
+use crate::kinds;
 use crate::marks::{self, Held};
 use crate::outcome::Outcome;
 use crate::progress::during;
@@ -31,16 +32,18 @@ fn pages_agree(answer: &Answer) -> String {
     spoken.unwrap_or("null".to_string())
 }
 
-fn text(answer: &Answer, written: &Result<bool, String>, json: bool) -> String {
+fn as_json(answer: &Answer, written: &Result<bool, String>, signature: &[u8]) -> String {
     let sentence = if answer.accepted() { AGREE.to_string() } else { answer.sentence() };
-    if json {
-        let agree = ("pages_agree", pages_agree(answer));
-        let mut members = json::answer(answer.number, answer.place, agree, &sentence);
-        members.extend(json::marks(written));
-        return json::object(&members) + "\n";
-    }
+    let agree = ("pages_agree", pages_agree(answer));
+    let mut members = json::answer(answer.number, answer.place, agree, &sentence);
+    members.extend(json::marks(written));
+    members.extend(kinds::warning_member(signature));
+    json::object(&members) + "\n"
+}
+
+fn as_line(answer: &Answer) -> String {
     if answer.accepted() {
-        return format!("{} {} pages agree: {sentence}\n", answer.number, answer.place);
+        return format!("{} {} pages agree: {AGREE}\n", answer.number, answer.place);
     }
     format!("{answer}\n")
 }
@@ -70,10 +73,10 @@ fn run(arguments: &Arguments) -> Result<Outcome, String> {
     let refused = !answer.wrote_marks();
     let mut notes = notes(refused, [&signature, &pages, &old]);
     notes.extend(remarks(&signature));
-    Ok(Outcome {
-        text: text(&answer, &written, arguments.json()),
-        passed: answer.accepted(),
-        notes,
-        failure: written.err(),
-    })
+    let text = match arguments.json() {
+        true => as_json(&answer, &written, &signature.bytes),
+        false => as_line(&answer),
+    };
+    let warnings = kinds::warning(&signature.bytes).into_iter().collect();
+    Ok(Outcome { text, passed: answer.accepted(), notes, warnings, failure: written.err() })
 }

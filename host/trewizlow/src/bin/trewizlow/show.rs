@@ -12,6 +12,7 @@ use crate::arguments::{Arguments, Names};
 use crate::command::Command;
 use crate::files::{notes, Opened};
 use crate::help;
+use crate::kinds;
 use crate::outcome::Outcome;
 use crate::remarks::remarks;
 use names::BLOBS;
@@ -89,5 +90,6 @@ fn run(arguments: &Arguments) -> Result<Outcome, String> {
     let passed = shown.answer().accepted();
     let mut notes = notes(!passed, [&file]);
     notes.extend(remarks(&file));
-    Ok(Outcome { passed, notes, ..Outcome::text(text) })
+    let warnings = kinds::warning(&file.bytes).into_iter().collect();
+    Ok(Outcome { passed, notes, warnings, ..Outcome::text(text) })
 }

@@ -36,7 +36,7 @@ fn remarks(signature: &[u8]) -> Vec<Member> {
     if let Some(offset) = scatter::offset(signature) {
         members.push(("scatter_offset", offset.to_string()));
     }
-    members.extend(kinds::warning(signature).map(|words| ("warning", string(&words))));
+    members.extend(kinds::warning_member(signature));
     members
 }
 
