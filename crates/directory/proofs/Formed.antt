@@ -13,7 +13,7 @@ use Rattle.refusals.specs.Refusals.{accepted, first, Passes}
 use Rattle.refusals.proofs.Conditions.{said}
 use Rattle.refusals.proofs.Positions.{lowest-before, lowest-fails, lowest-most, some-fails}
 use Rattle.refusals.proofs.Joined.{passes-append, append-passes, passed-at}
-use Rattle.layout.specs.CodeDirectory.{sha1Type, sha256Type, truncatedType, sha384Type, KnownKind, hashType, identOffset, pageSize, scatterOffset, codeLimit64}
+use Rattle.layout.specs.CodeDirectory.{KnownKind, hashType, identOffset, pageSize, scatterOffset, codeLimit64}
 use Rattle.superblob.specs.Rows.{rows}
 use Rattle.superblob.proofs.Formed.{formed-exactly}
 use Rattle.directory.specs.Head.{scatterVersion, limit64Version}
@@ -21,27 +21,10 @@ use Rattle.directory.specs.Pages.{mostCodeLimit}
 use Rattle.directory.specs.Rows.{directory, hashOutside, zeroAt, identLength, fieldRows, slotRows, blobRows, directoryRows, signatureRows}
 use Rattle.directory.specs.Formed.{DirectoryFormed, DirectoryExactly, SignatureExactly}
 use Rattle.directory.proofs.Numbers.{signatureRows-unused}
+use Rattle.directory.proofs.Hash.{known, known-passes}
 use Rattle.directory.proofs.Flags.{flags-plainly}
 use Rattle.directory.proofs.Since.{since-plainly}
 use Rattle.directory.proofs.Slots.{slots-inside}
-
--- TEST 13
-
-known : (x : ℕ) → ((x ≡ sha1Type → ⊥) → (x ≡ sha256Type → ⊥) → (x ≡ truncatedType → ⊥) → x ≡ sha384Type) → KnownKind x
-known x h = by-test (eqb x sha1Type) refl (eqb x sha256Type) refl (eqb x truncatedType) refl
-  where
-    by-test : (a : Bool) → eqb x sha1Type ≡ a → (b : Bool) → eqb x sha256Type ≡ b → (c : Bool) → eqb x truncatedType ≡ c → KnownKind x
-    by-test true e b f c g = inl (eqb-true x sha1Type e)
-    by-test false e true f c g = inr (inl (eqb-true x sha256Type f))
-    by-test false e false f true g = inr (inr (inl (eqb-true x truncatedType g)))
-    by-test false e false f false g =
-        inr (inr (inr (h (eqb-false x sha1Type e) (eqb-false x sha256Type f) (eqb-false x truncatedType g))))
-
-known-passes : (x : ℕ) → KnownKind x → (x ≡ sha1Type → ⊥) → (x ≡ sha256Type → ⊥) → (x ≡ truncatedType → ⊥) → x ≡ sha384Type
-known-passes x (inl e) a b c = absurd (a e)
-known-passes x (inr (inl e)) a b c = absurd (b e)
-known-passes x (inr (inr (inl e))) a b c = absurd (c e)
-known-passes x (inr (inr (inr e))) a b c = e
 
 -- TEST 14
 

@@ -7,16 +7,21 @@ use native.Mathlib.Nat.{mul-one, mul-suc, mul-le-mul-left, mul-le-mul-right}
 use native.Mathlib.Omega.{arith}
 use lib.Dec.{eqb}
 use borrow.Author.Tests.{eqb-false, eqb-true}
-use Rattle.refusals.proofs.Ranges.{hits, misses, lookup-most}
+use Rattle.refusals.proofs.Ranges.{valueAt, Hits, hits, misses, lookup-most}
 use Rattle.layout.specs.CodeDirectory.{sha1Type, sha256Type, truncatedType, sha384Type, KnownKind, slotWidths, widthOf}
+
+-- the width of a kind is in its line of the table
+pub width-at : (line kind : ℕ) → Hits line slotWidths kind → widthOf kind ≡ valueAt line slotWidths
+unfolding widthOf
+width-at line kind h = sym (hits line slotWidths 0 kind h)
 
 -- a known kind has slots of 20 bytes or more
 pub known-width : (kind : ℕ) → KnownKind kind → 20 ≤ widthOf kind
-unfolding widthOf slotWidths
-known-width kind (inl e) = omega (arith, hits 0 slotWidths 0 kind (omega arith))
-known-width kind (inr (inl e)) = omega (arith, hits 1 slotWidths 0 kind (omega arith))
-known-width kind (inr (inr (inl e))) = omega (arith, hits 2 slotWidths 0 kind (omega arith))
-known-width kind (inr (inr (inr e))) = omega (arith, hits 3 slotWidths 0 kind (omega arith))
+unfolding slotWidths
+known-width kind (inl e) = omega (arith, width-at 0 kind (omega arith))
+known-width kind (inr (inl e)) = omega (arith, width-at 1 kind (omega arith))
+known-width kind (inr (inr (inl e))) = omega (arith, width-at 2 kind (omega arith))
+known-width kind (inr (inr (inr e))) = omega (arith, width-at 3 kind (omega arith))
 
 -- so a kind whose slots have no bytes is none of the four
 pub no-width : (kind : ℕ) → widthOf kind ≡ 0 → KnownKind kind → ⊥
