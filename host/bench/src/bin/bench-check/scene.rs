@@ -2,6 +2,7 @@
 
 use bench::plain::{Kind, MOST};
 use reference::make::{CacheEntry, CachePlan, DirectoryPlan, SignaturePlan};
+use reference::samples;
 use trewizlow::{MOST_PAGES, MOST_SIGNATURE_BYTES};
 
 /// A signature over an image, and a trust cache of as many entries as there may be.
@@ -33,10 +34,11 @@ fn full_cache(kind: Kind, directory: &[u8]) -> CachePlan {
 }
 
 impl Scene {
-    /// The sample: three pages, four blobs, six cache entries.
+    /// The sample: three pages, four blobs, eight cache entries.
     pub fn sample() -> (Scene, Vec<u8>) {
-        let inputs = reference::samples::plan().build();
-        let (signature, cache, pages) = (inputs.signature, inputs.cache, inputs.pages);
+        let inputs = samples::plan().build();
+        let (signature, pages) = (inputs.signature, inputs.pages);
+        let cache = samples::cache().bytes();
         let (kind, page_size) = (Kind::Sha256, 4096);
         (Scene { kind, signature, cache, pages, page_size }, inputs.image)
     }
