@@ -2,7 +2,7 @@
 use mathlib.Core.Path.{_≡_, refl, sym, ap, _∙_}
 use mathlib.Core.Bool.{Bool, true, false, cond}
 use mathlib.Core.List.{List, [], _++_, append-nil}
-use Prim.Native.Nat.{ℕ, _-_, _≤_}
+use Prim.Native.Nat.{ℕ, _-_, _<_, _≤_}
 use native.Mathlib.Omega.{arith}
 use lib.Dec.{eqb}
 use lib.ListN.{take, replicate}
@@ -60,20 +60,24 @@ module _ (k : ℕ) (m : List ℕ) where
 
   -- words of 4 bytes: the digest is at the start of d, of which the kind's width is kept
   module _ (d r : List ℕ) (w : ℕ) (er : r ≡ take w d ++ replicate (48 - w) 0) (ew : w ≡ widthOf k) where
-    kept : take (widthOf k) d ≡ digestOf k m → r ≡ digestOf k m ++ replicate (48 - widthOf k) 0
-    kept e = er ∙ rw (ew, e)
-
-    pub of-sha1 : k ≡ sha1Type → take 20 d ≡ digest sha1 m → r ≡ digestOf k m ++ replicate (48 - widthOf k) 0
-    unfolding digestOf hashOf widthOf slotWidths lookup
-    of-sha1 h e = kept (rw h e)
-
-    pub of-sha256 : (k ≡ sha1Type → ⊥) → (k ≡ sha384Type → ⊥) → take 32 d ≡ digest sha256 m → r ≡ digestOf k m ++ replicate (48 - widthOf k) 0
+    pub of-cut : (f : Hash) → hashOf k ≡ cutTo (widthOf k) f → widthOf k ≤ f .width → take (f .width) d ≡ digest f m
+        → r ≡ digestOf k m ++ replicate (48 - widthOf k) 0
     unfolding digestOf
-    of-sha256 h₁ h₄ e =
-        kept (rw (← width-is k)
-        (by-number (λ f. take (f .width) d ≡ digest f m) k
-        (λ i. absurd (h₁ i)) (λ i. e) (λ i. sym (take-take 20 32 d (omega arith)) ∙ ap (take 20) e ∙ sym (digest-cut sha256 20 (omega arith) m)) (λ i. absurd (h₄ i))
-        (λ a b c d. no-bytes m)))
+    of-cut f ef le e =
+        let t : take (widthOf k) d ≡ digest (hashOf k) m =
+        sym (take-take (widthOf k) (f .width) d le) ∙ ap (take (widthOf k)) e ∙ sym (digest-cut f (widthOf k) le m) ∙ rw (← ef) in
+        er ∙ rw (ew, t)
+
+-- the functions of words of 4 bytes, of which the kinds are cuts
+pub cut-sha1 : (k : ℕ) → k ≡ sha1Type → (hashOf k ≡ cutTo (widthOf k) sha1) × (widthOf k ≤ 20)
+unfolding hashOf widthOf slotWidths lookup
+cut-sha1 k e = rw e (refl, omega arith)
+
+pub cut-sha256 : (k : ℕ) → 0 < widthOf k → (k ≡ sha1Type → ⊥) → (k ≡ sha384Type → ⊥) → (hashOf k ≡ cutTo (widthOf k) sha256) × (widthOf k ≤ 32)
+cut-sha256 k h h₁ h₄ =
+    rw (← width-is k)
+    (by-number (λ f. 0 < f .width → (f ≡ cutTo (f .width) sha256) × (f .width ≤ 32)) k
+    (λ i. absurd (h₁ i)) (λ i l. (refl, omega arith)) (λ i l. (refl, omega arith)) (λ i. absurd (h₄ i)) (λ a b c d l. absurd (omega arith)) (rw (width-is k) h))
 
 -- words of 4 bytes have at most 32
 pub narrow-width : (k : ℕ) → (k ≡ sha384Type → ⊥) → widthOf k ≤ 32

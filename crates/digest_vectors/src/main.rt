@@ -68,18 +68,17 @@ fn print_lengths(kind: usize, pattern: &[u8])
 fn print_pieces(piece: &[u8], n: usize)
     requires { ⌜ length (now piece) ≡ 8192 ⌝ }
 {
-    let k = sha32::K256;
     let mut v = sha32::H256;
     let mut i: usize = 0;
     while i < n / 8192 {
-        let next = sha32::absorb(Function::Sha256, v, piece, &k);
+        let next = sha32::absorb(Function::Sha256, v, piece);
         v = next;
         i += 1;
     }
     let last = n % 8192;
     let at = 64 * (last / 64);
-    let all = sha32::absorb(Function::Sha256, v, &piece[0..last], &k);
-    print_line(&sha32::write_value(sha32::finish(Function::Sha256, all, &piece[at..last], n, &k)));
+    let all = sha32::absorb(Function::Sha256, v, &piece[0..last]);
+    print_line(&sha32::write_value(sha32::finish(Function::Sha256, all, &piece[at..last], n)));
 }
 
 fn print_kind(kind: usize) {

@@ -5,7 +5,7 @@ pub mod Digests
 pub mod Windows
 pub mod Rounds
 pub mod Rounds1
-pub mod Sums
-pub mod Sigmas
+pub mod Elements
 pub mod Short
+pub mod Rotations
 pub mod Examples

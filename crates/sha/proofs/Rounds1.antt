@@ -38,15 +38,16 @@ module _ (t a b c d : ℕ) where
 pub local1 : Local mixed1
 local1 b c h = rw (h 3 (omega arith) (omega arith), h 8 (omega arith) (omega arith), h 14 (omega arith) (omega arith), h 16 (omega arith) (omega arith))
 
-pub renewed1-of : (w : List ℕ) (t v : ℕ)
-    → v ≡ mix1 (getD w ((t + 13) % 16) 0) (getD w ((t + 8) % 16) 0) (getD w ((t + 2) % 16) 0) (getD w (t % 16) 0) → set w (t % 16) v ≡ renewed mixed1 t w
+pub renewed1-of : (w : List ℕ) (i v : ℕ) → i < 16
+    → v ≡ mix1 (getD w ((i + 13) % 16) 0) (getD w ((i + 8) % 16) 0) (getD w ((i + 2) % 16) 0) (getD w i 0) → set w i v ≡ renewed mixed1 i w
 unfolding renewed
-renewed1-of w t v ev =
-    let a : t + 16 - 3 ≡ t + 13 = omega arith in
-    let b : t + 16 - 8 ≡ t + 8 = omega arith in
-    let c : t + 16 - 14 ≡ t + 2 = omega arith in
-    let d : t + 16 - 16 ≡ t = omega arith in
-    rw (a, b, c, d, ev)
+renewed1-of w i v h ev =
+    let a : i + 16 - 3 ≡ i + 13 = omega arith in
+    let b : i + 16 - 8 ≡ i + 8 = omega arith in
+    let c : i + 16 - 14 ≡ i + 2 = omega arith in
+    let d : i + 16 - 16 ≡ i = omega arith in
+    let m : i % 16 ≡ i = omega arith in
+    rw (a, b, c, d, m, ev)
 
 pub rounds1-follow : (h ws : List ℕ) (t : ℕ) → rounds1 (suc t) h ws ≡ round1 t (rounds1 t h ws) (getD ws t 0)
 unfolding rounds1

@@ -24,10 +24,10 @@ min-lt p q hp hq =
     (digit (λ (q : ℕ). min 1 q < 2) (omega arith) (omega arith) q hq) p hp
 
 -- the last digit of a result, and the digits before it
-xor-half : (a b : ℕ) → bitXor a b / 2 ≡ bitXor (a / 2) (b / 2)
+pub xor-half : (a b : ℕ) → bitXor a b / 2 ≡ bitXor (a / 2) (b / 2)
 xor-half a b = let d = differ-lt (a % 2) (b % 2) (low a) (low b) in omega (arith, xor-step a b)
 
-xor-low : (a b : ℕ) → bitXor a b % 2 ≡ differ (a % 2) (b % 2)
+pub xor-low : (a b : ℕ) → bitXor a b % 2 ≡ differ (a % 2) (b % 2)
 xor-low a b = let d = differ-lt (a % 2) (b % 2) (low a) (low b) in omega (arith, xor-step a b)
 
 and-half : (a b : ℕ) → bitAnd a b / 2 ≡ bitAnd (a / 2) (b / 2)
@@ -36,11 +36,11 @@ and-half a b = let d = min-lt (a % 2) (b % 2) (low a) (low b) in omega (arith, a
 and-low : (a b : ℕ) → bitAnd a b % 2 ≡ min (a % 2) (b % 2)
 and-low a b = let d = min-lt (a % 2) (b % 2) (low a) (low b) in omega (arith, and-step a b)
 
-by-digits : (a b : ℕ) → a / 2 ≡ b / 2 → a % 2 ≡ b % 2 → a ≡ b
+pub by-digits : (a b : ℕ) → a / 2 ≡ b / 2 → a % 2 ≡ b % 2 → a ≡ b
 by-digits a b h l = omega arith
 
 -- a claim about three digits
-digits : (P : ℕ → ℕ → ℕ → Type 0) → P 0 0 0 → P 0 0 1 → P 0 1 0 → P 0 1 1 → P 1 0 0 → P 1 0 1 → P 1 1 0 → P 1 1 1
+pub digits : (P : ℕ → ℕ → ℕ → Type 0) → P 0 0 0 → P 0 0 1 → P 0 1 0 → P 0 1 1 → P 1 0 0 → P 1 0 1 → P 1 1 0 → P 1 1 1
     → (p q r : ℕ) → p < 2 → q < 2 → r < 2 → P p q r
 digits P a b c d e f g h p q r hp hq hr =
     digit (λ (p : ℕ). P p q r)

@@ -1,5 +1,5 @@
 -- Laws of a schedule and of the sixteen words kept of it, once over the rule of the words and over the round. Assumes nothing.
-use mathlib.Core.Path.{_≡_, sym, ap, _∙_}
+use mathlib.Core.Path.{_≡_, refl, sym, ap, _∙_}
 use mathlib.Core.List.{List, [], _∷_}
 use mathlib.Core.Logic.{⊎-elim}
 use Prim.Native.Nat.{ℕ, zero, suc, _+_, _-_, _%_, _<_, _≤_}
@@ -95,33 +95,54 @@ module _ (f : Rule) (near : Local f) (n : ℕ) (ms : List ℕ) (sixteen : length
       let e : t + suc k ≡ t + k + 1 = omega arith in
       rw e (held-renewed (t + k) (i + k) (rolled f i k w) (omega arith) (held-rolled t i k w at o))
 
--- EIGHT CALLS, each with what the one before gave
+-- EIGHT STEPS from place i on: a round with the word at its place, then the new word there
 
-pub rolled-eight : (f : Rule) (i : ℕ) (w : List ℕ) {w₁ w₂ w₃ w₄ w₅ w₆ w₇ w₈ : List ℕ}
-    → w₁ ≡ renewed f (i + 0) w
-    → w₂ ≡ renewed f (i + 1) w₁
-    → w₃ ≡ renewed f (i + 2) w₂
-    → w₄ ≡ renewed f (i + 3) w₃
-    → w₅ ≡ renewed f (i + 4) w₄
-    → w₆ ≡ renewed f (i + 5) w₅
-    → w₇ ≡ renewed f (i + 6) w₆
-    → w₈ ≡ renewed f (i + 7) w₇
-    → w₈ ≡ rolled f i 8 w
-unfolding rolled
-rolled-eight f i w e₁ e₂ e₃ e₄ e₅ e₆ e₇ e₈ = rw (e₈, e₇, e₆, e₅, e₄, e₃, e₂, e₁)
+-- a place that no new word took
+rolled-keeps : (f : Rule) (i n : ℕ) (w : List ℕ) (j : ℕ) → i + n ≤ j → j < 16 → getD (rolled f i n w) j 0 ≡ getD w j 0
+unfolding rolled renewed
+rolled-keeps f i zero w j a b = refl
+rolled-keeps f i (suc n) w j a b =
+    getD-set-other (rolled f i n w) ((i + n) % 16) j (f (λ d. getD (rolled f i n w) ((i + n + 16 - d) % 16) 0)) 0 (λ p. omega arith)
+    ∙ rolled-keeps f i n w j (omega arith) b
 
-pub ran-eight : (g : Round) (t i : ℕ) (s w : List ℕ) {s₁ s₂ s₃ s₄ s₅ s₆ s₇ s₈ : List ℕ}
-    → s₁ ≡ g (t + (i + 0)) s (getD w ((i + 0) % 16) 0)
-    → s₂ ≡ g (t + (i + 1)) s₁ (getD w ((i + 1) % 16) 0)
-    → s₃ ≡ g (t + (i + 2)) s₂ (getD w ((i + 2) % 16) 0)
-    → s₄ ≡ g (t + (i + 3)) s₃ (getD w ((i + 3) % 16) 0)
-    → s₅ ≡ g (t + (i + 4)) s₄ (getD w ((i + 4) % 16) 0)
-    → s₆ ≡ g (t + (i + 5)) s₅ (getD w ((i + 5) % 16) 0)
-    → s₇ ≡ g (t + (i + 6)) s₆ (getD w ((i + 6) % 16) 0)
-    → s₈ ≡ g (t + (i + 7)) s₇ (getD w ((i + 7) % 16) 0)
-    → s₈ ≡ ran g t i 8 s w
-unfolding ran
-ran-eight g t i s w e₁ e₂ e₃ e₄ e₅ e₆ e₇ e₈ = rw (e₈, e₇, e₆, e₅, e₄, e₃, e₂, e₁)
+module _ (f : Rule) (g : Round) (t i : ℕ) (le : i + 8 ≤ 16) (s w : List ℕ) where
+  -- after n steps
+  abbrev Stepped : ℕ → List ℕ → List ℕ → Type 0
+  Stepped n s' w' = (s' ≡ ran g t i n s w) × (w' ≡ rolled f i n w)
+
+  -- one step, at place i + n
+  abbrev Step : ℕ → List ℕ → List ℕ → List ℕ → List ℕ → Type 0
+  Step n s' w' s'' w'' = (s'' ≡ g (t + (i + n)) s' (getD w' (i + n) 0)) × (w'' ≡ renewed f (i + n) w')
+
+  more : (n : ℕ) {s' w' s'' w'' : List ℕ} → n < 8 → Stepped n s' w' → Step n s' w' s'' w'' → Stepped (suc n) s'' w''
+  unfolding ran rolled
+  more n h e d =
+      let p : (i + n) % 16 ≡ i + n = omega arith in
+      (d .0 ∙ rw (e .0, e .1, p, rolled-keeps f i n w (i + n) (omega arith) (omega arith)), d .1 ∙ rw (e .1))
+
+  pub eight-steps : {s₁ s₂ s₃ s₄ s₅ s₆ s₇ s₈ w₁ w₂ w₃ w₄ w₅ w₆ w₇ w₈ : List ℕ}
+      → Step 0 s w s₁ w₁ → Step 1 s₁ w₁ s₂ w₂ → Step 2 s₂ w₂ s₃ w₃ → Step 3 s₃ w₃ s₄ w₄
+      → Step 4 s₄ w₄ s₅ w₅ → Step 5 s₅ w₅ s₆ w₆ → Step 6 s₆ w₆ s₇ w₇ → Step 7 s₇ w₇ s₈ w₈ → Stepped 8 s₈ w₈
+  unfolding ran rolled
+  eight-steps d₁ d₂ d₃ d₄ d₅ d₆ d₇ d₈ =
+      more 7 (omega arith) (more 6 (omega arith) (more 5 (omega arith) (more 4 (omega arith) (more 3 (omega arith) (more 2 (omega arith)
+      (more 1 (omega arith) (more 0 (omega arith) (refl, refl) d₁) d₂) d₃) d₄) d₅) d₆) d₇) d₈
+
+-- SIXTEEN ROUNDS with the words as they stand
+
+module _ (g : Round) (t : ℕ) (s w : List ℕ) where
+  -- round t + n, with the word at place n
+  abbrev Next : ℕ → List ℕ → List ℕ → Type 0
+  Next n s' s'' = s'' ≡ g (t + n) s' (getD w n 0)
+
+  pub sixteen-rounds : {s₁ s₂ s₃ s₄ s₅ s₆ s₇ s₈ s₉ s₁₀ s₁₁ s₁₂ s₁₃ s₁₄ s₁₅ s₁₆ : List ℕ}
+      → Next 0 s s₁ → Next 1 s₁ s₂ → Next 2 s₂ s₃ → Next 3 s₃ s₄
+      → Next 4 s₄ s₅ → Next 5 s₅ s₆ → Next 6 s₆ s₇ → Next 7 s₇ s₈
+      → Next 8 s₈ s₉ → Next 9 s₉ s₁₀ → Next 10 s₁₀ s₁₁ → Next 11 s₁₁ s₁₂
+      → Next 12 s₁₂ s₁₃ → Next 13 s₁₃ s₁₄ → Next 14 s₁₄ s₁₅ → Next 15 s₁₅ s₁₆ → s₁₆ ≡ ran g t 0 16 s w
+  unfolding ran
+  sixteen-rounds e₁ e₂ e₃ e₄ e₅ e₆ e₇ e₈ e₉ e₁₀ e₁₁ e₁₂ e₁₃ e₁₄ e₁₅ e₁₆ =
+      rw (e₁₆, e₁₅, e₁₄, e₁₃, e₁₂, e₁₁, e₁₀, e₉, e₈, e₇, e₆, e₅, e₄, e₃, e₂, e₁)
 
 -- THE ROUNDS: those with the words kept are those with the schedule, whose working words after t rounds are `after t`
 module _ (g : Round) (after : ℕ → List ℕ) (n : ℕ) (ws : List ℕ) (more : (t : ℕ) → after (suc t) ≡ g t (after t) (getD ws t 0)) where

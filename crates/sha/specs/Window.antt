@@ -24,6 +24,6 @@ unfoldable pub ran : Round → ℕ → ℕ → ℕ → List ℕ → List ℕ →
 ran g t i zero s w = s
 ran g t i (suc n) s w = g (t + (i + n)) (ran g t i n s w) (getD w ((i + n) % 16) 0)
 
--- SHA-2's round t, with its constant
-abbrev pub stage : Core → Round
-stage q t s x = round q s (getD (q .table) t 0) x
+-- SHA-2's round, with the constant at place t of a list
+abbrev pub keyed : Core → List ℕ → Round
+keyed q ks t s x = round q s (getD ks t 0) x

@@ -7,15 +7,12 @@ mod sha1;
 mod sha256;
 mod word;
 
-use load::load_block;
-pub use sha256::K256;
 ghost use mathlib.Core.Path.{_≡_};
 ghost use mathlib.Core.List.{_++_};
 ghost use Prim.Native.Nat.{_+_, _/_, _%_, _≤_};
 ghost use lib.ListN.{length, take};
 ghost use Rattle.sha.specs.Message.{words, allBytes, padding};
 ghost use Rattle.sha.specs.Hash.{chain, chained, digest};
-ghost use Rattle.sha.specs.Sha2.{k256};
 ghost use Rattle.sha32.specs.Hash32.{hash32};
 
 // A hash function of words of 32 bits.
@@ -59,30 +56,28 @@ fn start(function: Function) -> [u32; 8]
 }
 
 // The hash value after the block at byte `at`.
-fn compress_block(function: Function, h: [u32; 8], b: &[u8], at: usize, k: &[u32; 64]) -> [u32; 8]
-    requires { ⌜ (at + 64 ≤ length (now b)) × (now k ≡ k256) ⌝ }
+fn compress_block(function: Function, h: [u32; 8], b: &[u8], at: usize) -> [u32; 8]
+    requires { ⌜ at + 64 ≤ length (now b) ⌝ }
     ensures { λ r. ⌜ take (hash32 function .count) r ≡ hash32 function .block (take (hash32 function .count) h) (words 4 16 (now (b .entry)) at) ⌝ }
 {
-    let m = load_block(b, at);
     match function {
         Function::Sha1 => {
-            let v = sha1::compress_block([h[0], h[1], h[2], h[3], h[4]], m);
+            let v = sha1::compress_block([h[0], h[1], h[2], h[3], h[4]], b, at);
             [v[0], v[1], v[2], v[3], v[4], 0, 0, 0]
         }
-        Function::Sha256 => sha256::compress_block(h, m, k),
+        Function::Sha256 => sha256::compress_block(h, b, at),
     }
 }
 
 // The hash value after the whole blocks of a part; the bytes behind them are not read.
-pub fn absorb(function: Function, h: [u32; 8], part: &[u8], k: &[u32; 64]) -> [u32; 8]
-    requires { ⌜ now k ≡ k256 ⌝ }
+pub fn absorb(function: Function, h: [u32; 8], part: &[u8]) -> [u32; 8]
     ensures { λ r. ⌜ take (hash32 function .count) r ≡ chain (hash32 function) (take (hash32 function .count) h) (now (part .entry)) (length (now (part .entry)) / 64) ⌝ }
 {
     let full = part.len() / 64;
     let mut v = h;
     let mut i: usize = 0;
     while i < full {
-        let next = compress_block(function, v, part, 64 * i, k);
+        let next = compress_block(function, v, part, 64 * i);
         v = next;
         i += 1;
     }
@@ -91,17 +86,17 @@ pub fn absorb(function: Function, h: [u32; 8], part: &[u8], k: &[u32; 64]) -> [u
 
 // The hash value of a message of n bytes: h is the one after its whole blocks, and rest the bytes behind them. With the padding they
 // are one block, or two where the bit 1 and the length do not fit behind them; one buffer serves both.
-pub fn finish(function: Function, h: [u32; 8], rest: &[u8], n: usize, k: &[u32; 64]) -> [u32; 8]
-    requires { ⌜ (length (now rest) ≡ n % 64) × (now k ≡ k256) ⌝ }
+pub fn finish(function: Function, h: [u32; 8], rest: &[u8], n: usize) -> [u32; 8]
+    requires { ⌜ length (now rest) ≡ n % 64 ⌝ }
     ensures { λ r. ⌜ take (hash32 function .count) r ≡ chained (hash32 function) (take (hash32 function .count) h) (now (rest .entry) ++ padding 4 n) ⌝ }
 {
     let end = 64 * ((rest.len() + 8) / 64 + 1);
     let t = sha::close_tail(rest, n, end, 4);
-    let v = compress_block(function, h, &t, 0, k);
+    let v = compress_block(function, h, &t, 0);
     if end == 64 {
         return v;
     }
-    compress_block(function, v, &t, 64, k)
+    compress_block(function, v, &t, 64)
 }
 
 // The bytes of a hash value.
@@ -117,12 +112,11 @@ pub fn write_value(h: [u32; 8]) -> [u8; 32]
     out
 }
 
-// The digest of a part, at the start of 32 bytes. The table of round constants is built once and lent to every block.
+// The digest of a part, at the start of 32 bytes.
 pub fn digest(function: Function, part: &[u8]) -> [u8; 32]
     ensures { λ r. ⌜ take (hash32 function .width) r ≡ digest (hash32 function) (now (part .entry)) ⌝ }
 {
     let at = 64 * (part.len() / 64);
-    let k = K256;
-    let v = absorb(function, start(function), part, &k);
-    write_value(finish(function, v, &part[at..], part.len(), &k))
+    let v = absorb(function, start(function), part);
+    write_value(finish(function, v, &part[at..], part.len()))
 }

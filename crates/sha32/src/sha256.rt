@@ -1,7 +1,9 @@
 // The block step of SHA-256, FIPS 180-4, section 6.2.2.
 //
-// Names are the standard's: a block's words w, the working words s (a to h), T1 and T2, the hash value h. Eight rounds a turn and a
-// table that is lent cost less than one round a turn and a table built for every block.
+// Names are the standard's: a block's words w, the working words s (a to h), T1 and T2, the hash value h. Sixteen words of the schedule
+// are kept: each new one stands in the place of the one sixteen before it, behind the round that uses that one. Places are literal, and so
+// are the indices of the table of constants: neither needs an array in memory.
+use super::load::load_block;
 use super::word::add;
 use super::word::big_sigma0;
 use super::word::big_sigma1;
@@ -10,12 +12,15 @@ use super::word::majority;
 use super::word::small_sigma0;
 use super::word::small_sigma1;
 ghost use mathlib.Core.Path.{_≡_};
-ghost use lib.ListN.{take};
+ghost use Prim.Native.Nat.{_+_, _*_, _<_, _≤_};
+ghost use lib.ListN.{length, getD, take, drop};
 ghost use Rattle.sha.specs.Words.{sums};
-ghost use Rattle.sha.specs.Sha2.{t1, t2, round, rounds, mix, schedule, compress, core256, k256};
+ghost use Rattle.sha.specs.Message.{words};
+ghost use Rattle.sha.specs.Sha2.{t1, t2, round, rounds, mix, mixed, schedule, compress, core256, k256};
+ghost use Rattle.sha.specs.Window.{renewed, rolled, ran, keyed};
 
 // The round constants, section 4.2.2.
-pub const K256: [u32; 64] = [
+const K256: [u32; 64] = [
     0x428a2f98,
     0x71374491,
     0xb5c0fbcf,
@@ -112,35 +117,13 @@ fn next_word(w2: u32, w7: u32, w15: u32, w16: u32) -> u32
     add(add(add(small_sigma1(w2), w7), small_sigma0(w15)), w16)
 }
 
-// A block's sixteen words, at the start of a schedule.
-fn open_schedule(m: [u32; 16]) -> [u32; 64]
-    ensures { λ r. ⌜ take 16 r ≡ m ⌝ }
-{
-    let mut w = [0u32; 64];
-    let mut i: usize = 0;
-    while i < 16 {
-        w[i] = m[i];
-        i += 1;
-    }
-    w
-}
-
-// The schedule of the block whose words are the first sixteen.
-fn extend_schedule(m: [u32; 64]) -> [u32; 64]
-    ensures { λ r. ⌜ r ≡ schedule core256 48 (take 16 m) ⌝ }
+// The sixteen words kept, with the word sixteen after the one at place i in its place.
+fn renew_word(m: [u32; 16], i: usize) -> [u32; 16]
+    requires { ⌜ i < 16 ⌝ }
+    ensures { λ r. ⌜ r ≡ renewed (mixed core256) i m ⌝ }
 {
     let mut w = m;
-    let mut t: usize = 16;
-    while t < 64 {
-        w[t] = next_word(w[t - 2], w[t - 7], w[t - 15], w[t - 16]);
-        let t1 = t + 1;
-        w[t1] = next_word(w[t1 - 2], w[t1 - 7], w[t1 - 15], w[t1 - 16]);
-        let t2 = t1 + 1;
-        w[t2] = next_word(w[t2 - 2], w[t2 - 7], w[t2 - 15], w[t2 - 16]);
-        let t3 = t2 + 1;
-        w[t3] = next_word(w[t3 - 2], w[t3 - 7], w[t3 - 15], w[t3 - 16]);
-        t = t3 + 1;
-    }
+    w[i] = next_word(w[(i + 14) % 16], w[(i + 9) % 16], w[(i + 1) % 16], w[i]);
     w
 }
 
@@ -160,33 +143,148 @@ fn add_words(h: [u32; 8], s: [u32; 8]) -> [u32; 8]
     ]
 }
 
-// The 64 rounds, with the table of constants lent.
-fn run_rounds(h: [u32; 8], w: [u32; 64], k: &[u32; 64]) -> [u32; 8]
-    requires { ⌜ now k ≡ k256 ⌝ }
-    ensures { λ r. ⌜ r ≡ rounds core256 64 h w ⌝ }
+// The sixteen constants from round t on.
+fn sixteen(k: [u32; 64], t: usize) -> [u32; 16]
+    requires { ⌜ t + 16 ≤ 64 ⌝ }
+    ensures { λ r. ⌜ r ≡ take 16 (drop t k) ⌝ }
 {
-    let mut s = h;
-    let mut t: usize = 0;
-    while t < 64 {
-        let s1 = round_step(s, k[t], w[t]);
-        let s2 = round_step(s1, k[t + 1], w[t + 1]);
-        let s3 = round_step(s2, k[t + 2], w[t + 2]);
-        let s4 = round_step(s3, k[t + 3], w[t + 3]);
-        let s5 = round_step(s4, k[t + 4], w[t + 4]);
-        let s6 = round_step(s5, k[t + 5], w[t + 5]);
-        let s7 = round_step(s6, k[t + 6], w[t + 6]);
-        let s8 = round_step(s7, k[t + 7], w[t + 7]);
-        s = s8;
-        t += 8;
-    }
-    s
+    [
+        k[t],
+        k[t + 1],
+        k[t + 2],
+        k[t + 3],
+        k[t + 4],
+        k[t + 5],
+        k[t + 6],
+        k[t + 7],
+        k[t + 8],
+        k[t + 9],
+        k[t + 10],
+        k[t + 11],
+        k[t + 12],
+        k[t + 13],
+        k[t + 14],
+        k[t + 15],
+    ]
 }
 
-// The hash value after one more block of sixteen words.
-pub fn compress_block(h: [u32; 8], m: [u32; 16], k: &[u32; 64]) -> [u32; 8]
-    requires { ⌜ now k ≡ k256 ⌝ }
-    ensures { λ r. ⌜ r ≡ compress core256 h m ⌝ }
+// The constants of a turn of sixteen rounds. The compiler keeps what a `match` like this one chooses from with the program, and no
+// table is built on the stack.
+fn constants(turn: usize) -> [u32; 16]
+    requires { ⌜ turn < 4 ⌝ }
+    ensures { λ r. ⌜ r ≡ take 16 (drop (16 * turn) k256) ⌝ }
 {
-    let w = extend_schedule(open_schedule(m));
-    add_words(h, run_rounds(h, w, k))
+    let k = K256;
+    match turn {
+        0 => sixteen(k, 0),
+        1 => sixteen(k, 16),
+        2 => sixteen(k, 32),
+        _ => sixteen(k, 48),
+    }
+}
+
+// Round i of a turn, with the constant and the word at place i.
+fn round_at(s: [u32; 8], w: [u32; 16], k: [u32; 16], i: usize) -> [u32; 8]
+    requires { ⌜ i < 16 ⌝ }
+    ensures { λ r. ⌜ r ≡ keyed core256 k i s (getD w i 0) ⌝ }
+{
+    round_step(s, k[i], w[i])
+}
+
+// The working words, and the sixteen words of the schedule that are kept.
+struct Kept {
+    s: [u32; 8],
+    w: [u32; 16],
+}
+
+// Round i of a turn, and then the new word at place i.
+fn step(x: Kept, k: [u32; 16], i: usize) -> Kept
+    requires { ⌜ i < 16 ⌝ }
+    ensures { λ r. ⌜ (r .s ≡ keyed core256 k i (x .s) (getD (x .w) i 0)) × (r .w ≡ renewed (mixed core256) i (x .w)) ⌝ }
+{
+    let s = x.s;
+    let w = x.w;
+    Kept {
+        s: round_at(s, w, k, i),
+        w: renew_word(w, i),
+    }
+}
+
+// The first eight rounds of a turn, with their new words.
+fn steps_low(x: Kept, k: [u32; 16]) -> Kept
+    ensures { λ r. ⌜ (r .s ≡ ran (keyed core256 k) 0 0 8 (x .s) (x .w)) × (r .w ≡ rolled (mixed core256) 0 8 (x .w)) ⌝ }
+{
+    let x1 = step(x, k, 0);
+    let x2 = step(x1, k, 1);
+    let x3 = step(x2, k, 2);
+    let x4 = step(x3, k, 3);
+    let x5 = step(x4, k, 4);
+    let x6 = step(x5, k, 5);
+    let x7 = step(x6, k, 6);
+    let x8 = step(x7, k, 7);
+    x8
+}
+
+// The other eight.
+fn steps_high(x: Kept, k: [u32; 16]) -> Kept
+    ensures { λ r. ⌜ (r .s ≡ ran (keyed core256 k) 0 8 8 (x .s) (x .w)) × (r .w ≡ rolled (mixed core256) 8 8 (x .w)) ⌝ }
+{
+    let x1 = step(x, k, 8);
+    let x2 = step(x1, k, 9);
+    let x3 = step(x2, k, 10);
+    let x4 = step(x3, k, 11);
+    let x5 = step(x4, k, 12);
+    let x6 = step(x5, k, 13);
+    let x7 = step(x6, k, 14);
+    let x8 = step(x7, k, 15);
+    x8
+}
+
+// The sixteen rounds of the last turn, which needs no new word.
+fn last_rounds(s: [u32; 8], w: [u32; 16], k: [u32; 16]) -> [u32; 8]
+    ensures { λ r. ⌜ r ≡ ran (keyed core256 k) 0 0 16 s w ⌝ }
+{
+    let s1 = round_at(s, w, k, 0);
+    let s2 = round_at(s1, w, k, 1);
+    let s3 = round_at(s2, w, k, 2);
+    let s4 = round_at(s3, w, k, 3);
+    let s5 = round_at(s4, w, k, 4);
+    let s6 = round_at(s5, w, k, 5);
+    let s7 = round_at(s6, w, k, 6);
+    let s8 = round_at(s7, w, k, 7);
+    let s9 = round_at(s8, w, k, 8);
+    let s10 = round_at(s9, w, k, 9);
+    let s11 = round_at(s10, w, k, 10);
+    let s12 = round_at(s11, w, k, 11);
+    let s13 = round_at(s12, w, k, 12);
+    let s14 = round_at(s13, w, k, 13);
+    let s15 = round_at(s14, w, k, 14);
+    let s16 = round_at(s15, w, k, 15);
+    s16
+}
+
+// The 64 rounds of the block m.
+fn run_rounds(h: [u32; 8], m: [u32; 16]) -> [u32; 8]
+    ensures { λ r. ⌜ r ≡ rounds core256 64 h (schedule core256 48 m) ⌝ }
+{
+    let mut x = Kept { s: h, w: m };
+    let mut turn: usize = 0;
+    while turn < 3 {
+        let k = constants(turn);
+        let y = steps_low(x, k);
+        let z = steps_high(y, k);
+        x = z;
+        turn += 1;
+    }
+    let s = x.s;
+    let w = x.w;
+    last_rounds(s, w, constants(3))
+}
+
+// The hash value after the block at byte `at`.
+pub fn compress_block(h: [u32; 8], b: &[u8], at: usize) -> [u32; 8]
+    requires { ⌜ at + 64 ≤ length (now b) ⌝ }
+    ensures { λ r. ⌜ r ≡ compress core256 h (words 4 16 (now (b .entry)) at) ⌝ }
+{
+    add_words(h, run_rounds(h, load_block(b, at)))
 }

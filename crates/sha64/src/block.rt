@@ -1,7 +1,8 @@
 // The block step of SHA-384 and SHA-512, FIPS 180-4, section 6.4.2.
 //
 // Names are the standard's: a block's words w, the working words s (a to h), T1 and T2, the hash value h. Sixteen words of the schedule
-// are kept, at places that are literal: each new one stands in the place of the one sixteen before it. The table of constants is lent.
+// are kept: each new one stands in the place of the one sixteen before it, behind the round that uses that one. Places are literal, and so
+// are the indices of the table of constants: neither needs an array in memory.
 use super::load::load_block;
 use super::word::add;
 use super::word::big_sigma0;
@@ -11,12 +12,12 @@ use super::word::majority;
 use super::word::small_sigma0;
 use super::word::small_sigma1;
 ghost use mathlib.Core.Path.{_≡_};
-ghost use Prim.Native.Nat.{_+_, _<_, _≤_};
-ghost use lib.ListN.{length, getD};
+ghost use Prim.Native.Nat.{_+_, _*_, _<_, _≤_};
+ghost use lib.ListN.{length, getD, take, drop};
 ghost use Rattle.sha.specs.Words.{sums};
 ghost use Rattle.sha.specs.Message.{words};
 ghost use Rattle.sha.specs.Sha2.{t1, t2, round, rounds, mix, mixed, schedule, compress, core512, k512};
-ghost use Rattle.sha.specs.Window.{renewed, rolled, ran, stage};
+ghost use Rattle.sha.specs.Window.{renewed, rolled, ran, keyed};
 
 // The round constants, section 4.2.3.
 pub const K512: [u64; 80] = [
@@ -142,36 +143,6 @@ fn renew_word(m: [u64; 16], i: usize) -> [u64; 16]
     w
 }
 
-// The same at places 0 to 7, one after the other.
-fn renew_low(w: [u64; 16]) -> [u64; 16]
-    ensures { λ r. ⌜ r ≡ rolled (mixed core512) 0 8 w ⌝ }
-{
-    let w1 = renew_word(w, 0);
-    let w2 = renew_word(w1, 1);
-    let w3 = renew_word(w2, 2);
-    let w4 = renew_word(w3, 3);
-    let w5 = renew_word(w4, 4);
-    let w6 = renew_word(w5, 5);
-    let w7 = renew_word(w6, 6);
-    let w8 = renew_word(w7, 7);
-    w8
-}
-
-// The same at places 8 to 15.
-fn renew_high(w: [u64; 16]) -> [u64; 16]
-    ensures { λ r. ⌜ r ≡ rolled (mixed core512) 8 8 w ⌝ }
-{
-    let w1 = renew_word(w, 8);
-    let w2 = renew_word(w1, 9);
-    let w3 = renew_word(w2, 10);
-    let w4 = renew_word(w3, 11);
-    let w5 = renew_word(w4, 12);
-    let w6 = renew_word(w5, 13);
-    let w7 = renew_word(w6, 14);
-    let w8 = renew_word(w7, 15);
-    w8
-}
-
 // The closing sum.
 fn add_words(h: [u64; 8], s: [u64; 8]) -> [u64; 8]
     ensures { λ r. ⌜ r ≡ sums 64 8 h s ⌝ }
@@ -188,94 +159,149 @@ fn add_words(h: [u64; 8], s: [u64; 8]) -> [u64; 8]
     ]
 }
 
-// Round t + i, with the word at place i; the table of constants is lent.
-fn round_at(s: [u64; 8], w: [u64; 16], k: &[u64; 80], t: usize, i: usize) -> [u64; 8]
-    requires { ⌜ (now k ≡ k512) × (t + i < 80) × (i < 16) ⌝ }
-    ensures { λ r. ⌜ r ≡ stage core512 (t + i) s (getD w i 0) ⌝ }
+// The sixteen constants from round t on.
+fn sixteen(k: [u64; 80], t: usize) -> [u64; 16]
+    requires { ⌜ t + 16 ≤ 80 ⌝ }
+    ensures { λ r. ⌜ r ≡ take 16 (drop t k) ⌝ }
 {
-    round_step(s, k[t + i], w[i])
+    [
+        k[t],
+        k[t + 1],
+        k[t + 2],
+        k[t + 3],
+        k[t + 4],
+        k[t + 5],
+        k[t + 6],
+        k[t + 7],
+        k[t + 8],
+        k[t + 9],
+        k[t + 10],
+        k[t + 11],
+        k[t + 12],
+        k[t + 13],
+        k[t + 14],
+        k[t + 15],
+    ]
 }
 
-// The eight rounds from t on, with the words at places 0 to 7.
-fn rounds_low(s: [u64; 8], w: [u64; 16], k: &[u64; 80], t: usize) -> [u64; 8]
-    requires { ⌜ (now k ≡ k512) × (t < 65) ⌝ }
-    ensures { λ r. ⌜ r ≡ ran (stage core512) t 0 8 s w ⌝ }
+// The constants of a turn of sixteen rounds. The compiler keeps what a `match` like this one chooses from with the program, and no
+// table is built on the stack.
+fn constants(turn: usize) -> [u64; 16]
+    requires { ⌜ turn < 5 ⌝ }
+    ensures { λ r. ⌜ r ≡ take 16 (drop (16 * turn) k512) ⌝ }
 {
-    let s1 = round_at(s, w, k, t, 0);
-    let s2 = round_at(s1, w, k, t, 1);
-    let s3 = round_at(s2, w, k, t, 2);
-    let s4 = round_at(s3, w, k, t, 3);
-    let s5 = round_at(s4, w, k, t, 4);
-    let s6 = round_at(s5, w, k, t, 5);
-    let s7 = round_at(s6, w, k, t, 6);
-    let s8 = round_at(s7, w, k, t, 7);
-    s8
+    let k = K512;
+    match turn {
+        0 => sixteen(k, 0),
+        1 => sixteen(k, 16),
+        2 => sixteen(k, 32),
+        3 => sixteen(k, 48),
+        _ => sixteen(k, 64),
+    }
 }
 
-// The eight rounds from t + 8 on, with the words at places 8 to 15.
-fn rounds_high(s: [u64; 8], w: [u64; 16], k: &[u64; 80], t: usize) -> [u64; 8]
-    requires { ⌜ (now k ≡ k512) × (t < 65) ⌝ }
-    ensures { λ r. ⌜ r ≡ ran (stage core512) t 8 8 s w ⌝ }
+// Round i of a turn, with the constant and the word at place i.
+fn round_at(s: [u64; 8], w: [u64; 16], k: [u64; 16], i: usize) -> [u64; 8]
+    requires { ⌜ i < 16 ⌝ }
+    ensures { λ r. ⌜ r ≡ keyed core512 k i s (getD w i 0) ⌝ }
 {
-    let s1 = round_at(s, w, k, t, 8);
-    let s2 = round_at(s1, w, k, t, 9);
-    let s3 = round_at(s2, w, k, t, 10);
-    let s4 = round_at(s3, w, k, t, 11);
-    let s5 = round_at(s4, w, k, t, 12);
-    let s6 = round_at(s5, w, k, t, 13);
-    let s7 = round_at(s6, w, k, t, 14);
-    let s8 = round_at(s7, w, k, t, 15);
-    s8
+    round_step(s, k[i], w[i])
 }
 
-// The last sixteen rounds, which need no new word.
-fn last_rounds(s: [u64; 8], w: [u64; 16], k: &[u64; 80]) -> [u64; 8]
-    requires { ⌜ now k ≡ k512 ⌝ }
-    ensures { λ r. ⌜ r ≡ ran (stage core512) 64 0 16 s w ⌝ }
+// The working words, and the sixteen words of the schedule that are kept.
+struct Kept {
+    s: [u64; 8],
+    w: [u64; 16],
+}
+
+// Round i of a turn, and then the new word at place i.
+fn step(x: Kept, k: [u64; 16], i: usize) -> Kept
+    requires { ⌜ i < 16 ⌝ }
+    ensures { λ r. ⌜ (r .s ≡ keyed core512 k i (x .s) (getD (x .w) i 0)) × (r .w ≡ renewed (mixed core512) i (x .w)) ⌝ }
 {
-    let s1 = round_at(s, w, k, 64, 0);
-    let s2 = round_at(s1, w, k, 64, 1);
-    let s3 = round_at(s2, w, k, 64, 2);
-    let s4 = round_at(s3, w, k, 64, 3);
-    let s5 = round_at(s4, w, k, 64, 4);
-    let s6 = round_at(s5, w, k, 64, 5);
-    let s7 = round_at(s6, w, k, 64, 6);
-    let s8 = round_at(s7, w, k, 64, 7);
-    let s9 = round_at(s8, w, k, 64, 8);
-    let s10 = round_at(s9, w, k, 64, 9);
-    let s11 = round_at(s10, w, k, 64, 10);
-    let s12 = round_at(s11, w, k, 64, 11);
-    let s13 = round_at(s12, w, k, 64, 12);
-    let s14 = round_at(s13, w, k, 64, 13);
-    let s15 = round_at(s14, w, k, 64, 14);
-    let s16 = round_at(s15, w, k, 64, 15);
+    let s = x.s;
+    let w = x.w;
+    Kept {
+        s: round_at(s, w, k, i),
+        w: renew_word(w, i),
+    }
+}
+
+// The first eight rounds of a turn, with their new words.
+fn steps_low(x: Kept, k: [u64; 16]) -> Kept
+    ensures { λ r. ⌜ (r .s ≡ ran (keyed core512 k) 0 0 8 (x .s) (x .w)) × (r .w ≡ rolled (mixed core512) 0 8 (x .w)) ⌝ }
+{
+    let x1 = step(x, k, 0);
+    let x2 = step(x1, k, 1);
+    let x3 = step(x2, k, 2);
+    let x4 = step(x3, k, 3);
+    let x5 = step(x4, k, 4);
+    let x6 = step(x5, k, 5);
+    let x7 = step(x6, k, 6);
+    let x8 = step(x7, k, 7);
+    x8
+}
+
+// The other eight.
+fn steps_high(x: Kept, k: [u64; 16]) -> Kept
+    ensures { λ r. ⌜ (r .s ≡ ran (keyed core512 k) 0 8 8 (x .s) (x .w)) × (r .w ≡ rolled (mixed core512) 8 8 (x .w)) ⌝ }
+{
+    let x1 = step(x, k, 8);
+    let x2 = step(x1, k, 9);
+    let x3 = step(x2, k, 10);
+    let x4 = step(x3, k, 11);
+    let x5 = step(x4, k, 12);
+    let x6 = step(x5, k, 13);
+    let x7 = step(x6, k, 14);
+    let x8 = step(x7, k, 15);
+    x8
+}
+
+// The sixteen rounds of the last turn, which needs no new word.
+fn last_rounds(s: [u64; 8], w: [u64; 16], k: [u64; 16]) -> [u64; 8]
+    ensures { λ r. ⌜ r ≡ ran (keyed core512 k) 0 0 16 s w ⌝ }
+{
+    let s1 = round_at(s, w, k, 0);
+    let s2 = round_at(s1, w, k, 1);
+    let s3 = round_at(s2, w, k, 2);
+    let s4 = round_at(s3, w, k, 3);
+    let s5 = round_at(s4, w, k, 4);
+    let s6 = round_at(s5, w, k, 5);
+    let s7 = round_at(s6, w, k, 6);
+    let s8 = round_at(s7, w, k, 7);
+    let s9 = round_at(s8, w, k, 8);
+    let s10 = round_at(s9, w, k, 9);
+    let s11 = round_at(s10, w, k, 10);
+    let s12 = round_at(s11, w, k, 11);
+    let s13 = round_at(s12, w, k, 12);
+    let s14 = round_at(s13, w, k, 13);
+    let s15 = round_at(s14, w, k, 14);
+    let s16 = round_at(s15, w, k, 15);
     s16
 }
 
 // The 80 rounds of the block m.
-fn run_rounds(h: [u64; 8], m: [u64; 16], k: &[u64; 80]) -> [u64; 8]
-    requires { ⌜ now k ≡ k512 ⌝ }
+fn run_rounds(h: [u64; 8], m: [u64; 16]) -> [u64; 8]
     ensures { λ r. ⌜ r ≡ rounds core512 80 h (schedule core512 64 m) ⌝ }
 {
-    let mut s = h;
-    let mut w = m;
-    let mut t: usize = 0;
-    while t < 64 {
-        let s1 = rounds_low(s, w, k, t);
-        let w1 = renew_low(w);
-        let s2 = rounds_high(s1, w1, k, t);
-        let w2 = renew_high(w1);
-        s = s2;
-        w = w2;
-        t += 16;
+    let mut x = Kept { s: h, w: m };
+    let mut turn: usize = 0;
+    while turn < 4 {
+        let k = constants(turn);
+        let y = steps_low(x, k);
+        let z = steps_high(y, k);
+        x = z;
+        turn += 1;
     }
-    last_rounds(s, w, k)
+    let s = x.s;
+    let w = x.w;
+    last_rounds(s, w, constants(4))
 }
 
 // The hash value after the block at byte `at`.
-pub fn compress_block(h: [u64; 8], b: &[u8], at: usize, k: &[u64; 80]) -> [u64; 8]
-    requires { ⌜ (at + 128 ≤ length (now b)) × (now k ≡ k512) ⌝ }
+pub fn compress_block(h: [u64; 8], b: &[u8], at: usize) -> [u64; 8]
+    requires { ⌜ at + 128 ≤ length (now b) ⌝ }
     ensures { λ r. ⌜ r ≡ compress core512 h (words 8 16 (now (b .entry)) at) ⌝ }
 {
-    add_words(h, run_rounds(h, load_block(b, at), k))
+    add_words(h, run_rounds(h, load_block(b, at)))
 }

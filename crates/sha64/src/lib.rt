@@ -6,7 +6,6 @@ mod block;
 mod load;
 mod word;
 
-use block::K512;
 use block::compress_block;
 ghost use mathlib.Core.Path.{_≡_};
 ghost use mathlib.Core.List.{_++_};
@@ -14,7 +13,7 @@ ghost use Prim.Native.Nat.{_/_, _%_};
 ghost use lib.ListN.{length};
 ghost use Rattle.sha.specs.Message.{allBytes, padding};
 ghost use Rattle.sha.specs.Hash.{chain, chained, digest};
-ghost use Rattle.sha.specs.Sha2.{k512, h384, sha384};
+ghost use Rattle.sha.specs.Sha2.{h384, sha384};
 
 // The initial hash value, FIPS 180-4, section 5.3.4.
 const H384: [u64; 8] = [
@@ -36,15 +35,14 @@ fn start() -> [u64; 8]
 }
 
 // The hash value after the whole blocks of a part; the bytes behind them are not read.
-fn absorb(h: [u64; 8], part: &[u8], k: &[u64; 80]) -> [u64; 8]
-    requires { ⌜ now k ≡ k512 ⌝ }
+fn absorb(h: [u64; 8], part: &[u8]) -> [u64; 8]
     ensures { λ r. ⌜ r ≡ chain sha384 h (now (part .entry)) (length (now (part .entry)) / 128) ⌝ }
 {
     let full = part.len() / 128;
     let mut v = h;
     let mut i: usize = 0;
     while i < full {
-        let next = compress_block(v, part, 128 * i, k);
+        let next = compress_block(v, part, 128 * i);
         v = next;
         i += 1;
     }
@@ -53,17 +51,17 @@ fn absorb(h: [u64; 8], part: &[u8], k: &[u64; 80]) -> [u64; 8]
 
 // The hash value of a message of n bytes: h is the one after its whole blocks, and rest the bytes behind them. With the padding they
 // are one block, or two where the bit 1 and the length do not fit behind them; one buffer serves both.
-fn finish(h: [u64; 8], rest: &[u8], n: usize, k: &[u64; 80]) -> [u64; 8]
-    requires { ⌜ (length (now rest) ≡ n % 128) × (now k ≡ k512) ⌝ }
+fn finish(h: [u64; 8], rest: &[u8], n: usize) -> [u64; 8]
+    requires { ⌜ length (now rest) ≡ n % 128 ⌝ }
     ensures { λ r. ⌜ r ≡ chained sha384 h (now (rest .entry) ++ padding 8 n) ⌝ }
 {
     let end = 128 * ((rest.len() + 16) / 128 + 1);
     let t = sha::close_tail(rest, n, end, 8);
-    let v = compress_block(h, &t, 0, k);
+    let v = compress_block(h, &t, 0);
     if end == 128 {
         return v;
     }
-    compress_block(v, &t, 128, k)
+    compress_block(v, &t, 128)
 }
 
 // The bytes of a hash value's first six words, which are SHA-384's.
@@ -79,12 +77,11 @@ fn write_value(h: [u64; 8]) -> [u8; 48]
     out
 }
 
-// The digest of a part. The table of round constants is built once and lent to every block.
+// The digest of a part.
 pub fn digest(part: &[u8]) -> [u8; 48]
     ensures { λ r. ⌜ r ≡ digest sha384 (now (part .entry)) ⌝ }
 {
     let at = 128 * (part.len() / 128);
-    let k = K512;
-    let v = absorb(start(), part, &k);
-    write_value(finish(v, &part[at..], part.len(), &k))
+    let v = absorb(start(), part);
+    write_value(finish(v, &part[at..], part.len()))
 }

@@ -32,11 +32,22 @@ pub fn load_block(b: &[u8], at: usize) -> [u64; 16]
     requires { ⌜ at + 128 ≤ length (now b) ⌝ }
     ensures { λ r. ⌜ r ≡ words 8 16 (now (b .entry)) at ⌝ }
 {
-    let mut w = [0u64; 16];
-    let mut i: usize = 0;
-    while i < 16 {
-        w[i] = word_at(b, at + 8 * i);
-        i += 1;
-    }
-    w
+    [
+        word_at(b, at + 0),
+        word_at(b, at + 8),
+        word_at(b, at + 16),
+        word_at(b, at + 24),
+        word_at(b, at + 32),
+        word_at(b, at + 40),
+        word_at(b, at + 48),
+        word_at(b, at + 56),
+        word_at(b, at + 64),
+        word_at(b, at + 72),
+        word_at(b, at + 80),
+        word_at(b, at + 88),
+        word_at(b, at + 96),
+        word_at(b, at + 104),
+        word_at(b, at + 112),
+        word_at(b, at + 120),
+    ]
 }

@@ -1,5 +1,6 @@
-// The functions of FIPS 180-4, section 4.1.3, on words of 64 bits. Ch and Maj are computed in forms that take fewer
-// operations than the standard's; they are equal by `ch-short` and `maj-short` of `sha`.
+// The functions of FIPS 180-4, section 4.1.3, on words of 64 bits. Ch, Maj and the sigmas are
+// computed in forms that take fewer operations than the standard's: Ch and Maj by `ch-short` and `maj-short` of `sha`, and a rotation around
+// a rotation stands for two of them, by `big-sigma-nested` and `small-sigma-nested`.
 ghost use mathlib.Core.Path.{_≡_};
 ghost use Prim.Native.Nat.{_<_};
 ghost use Rattle.sha.specs.Words.{plus, rotr, ch, maj, bigSigma, smallSigma};
@@ -20,25 +21,25 @@ pub fn rotate(x: u64, n: u64) -> u64
 pub fn big_sigma0(x: u64) -> u64
     ensures { λ r. ⌜ r ≡ bigSigma 64 28 34 39 x ⌝ }
 {
-    rotate(x, 28) ^ rotate(x, 34) ^ rotate(x, 39)
+    rotate(rotate(rotate(x, 5) ^ x, 6) ^ x, 28)
 }
 
 pub fn big_sigma1(x: u64) -> u64
     ensures { λ r. ⌜ r ≡ bigSigma 64 14 18 41 x ⌝ }
 {
-    rotate(x, 14) ^ rotate(x, 18) ^ rotate(x, 41)
+    rotate(rotate(rotate(x, 23) ^ x, 4) ^ x, 14)
 }
 
 pub fn small_sigma0(x: u64) -> u64
     ensures { λ r. ⌜ r ≡ smallSigma 64 1 8 7 x ⌝ }
 {
-    rotate(x, 1) ^ rotate(x, 8) ^ (x >> 7)
+    rotate(rotate(x, 7) ^ x, 1) ^ (x >> 7)
 }
 
 pub fn small_sigma1(x: u64) -> u64
     ensures { λ r. ⌜ r ≡ smallSigma 64 19 61 6 x ⌝ }
 {
-    rotate(x, 19) ^ rotate(x, 61) ^ (x >> 6)
+    rotate(rotate(x, 42) ^ x, 19) ^ (x >> 6)
 }
 
 pub fn choose(x: u64, y: u64, z: u64) -> u64

@@ -12,11 +12,11 @@ use Rattle.sha32.proofs.absorb.Statement.{statement}
 use Rattle.sha32.proofs.absorb.Tie as tie
 
 abbrev Inv-loop : tie.InvT-loop
-Inv-loop function part k full v₀ i₀ v i =
+Inv-loop function part full v₀ i₀ v i =
     (i ≤ full) × (full ≡ length part / 64) × (take (hash32 function .count) v ≡ chain (hash32 function) (take (hash32 function .count) v₀) part i)
 
 abbrev μ-loop : tie.MeasureT-loop
-μ-loop function part k full v₀ i₀ v i = full - i
+μ-loop function part full v₀ i₀ v i = full - i
 
 loop-holds : tie.Need-loop-holds Inv-loop μ-loop
 unfolding chain

@@ -5,7 +5,6 @@ use lib.ListN.{take, length}
 use Prim.Native.Nat.{_/_}
 use Rattle.sha.specs.Message.{padded}
 use Rattle.sha.specs.Hash.{chain, chained}
-use Rattle.sha.specs.Sha2.{k256}
 use Rattle.sha.proofs.Padding.{whole}
 use Rattle.sha32.specs.Hash32.{hash32}
 use Rattle.sha32.proofs.Both.{size32, written-32}
@@ -20,8 +19,7 @@ start-requires : tie.Need-start-requires
 start-requires c κs = search needs
 
 absorb-requires : tie.Need-absorb-requires
-unfolding k256
-absorb-requires c κs = refl
+absorb-requires c κs = search needs
 
 sub-finish : tie.Need-sub-finish
 sub-finish c = search needs
@@ -33,20 +31,19 @@ part-finish-end : tie.Need-part-finish-end
 part-finish-end c = search needs
 
 finish-requires : tie.Need-finish-requires
-unfolding k256
-finish-requires c κs = (search needs, refl)
+finish-requires c κs = search needs
 
 write-value-requires : tie.Need-write-value-requires
 write-value-requires c κs = search needs
 
 returns : tie.Need-returns
 returns c =
-    let a = c .before .before .before .before .before .before .before .before .args in
+    let a = c .before .before .before .before .before .before .args in
     let m = a .part .now in
     let f = hash32 (a .function) in
-    let u = c .before .before .before .before .absorb in
+    let u = c .before .before .before .absorb in
     let s : take (f .count) (u .result) ≡ chain f (f .start) m (length m / 64) =
-    rw (c .before .before .before .before .before .before .start .ensures) at (u .ensures) in
+    rw (c .before .before .before .before .start .ensures) at (u .ensures) in
     let e : take (f .count) (c .before .finish .result) ≡ chained f (f .start) (padded 4 m) =
     whole f 4 (size32 (a .function)) (omega arith) (f .start) m _ _ s (c .before .finish .ensures) in
     rw (c .write-value .ensures) (written-32 (a .function) m (c .before .finish .result) e)

@@ -11,10 +11,10 @@ use Rattle.sha64.proofs.absorb.Statement.{statement}
 use Rattle.sha64.proofs.absorb.Tie as tie
 
 abbrev Inv-loop : tie.InvT-loop
-Inv-loop part k full v₀ i₀ v i = (i ≤ full) × (full ≡ length part / 128) × (v ≡ chain sha384 v₀ part i)
+Inv-loop part full v₀ i₀ v i = (i ≤ full) × (full ≡ length part / 128) × (v ≡ chain sha384 v₀ part i)
 
 abbrev μ-loop : tie.MeasureT-loop
-μ-loop part k full v₀ i₀ v i = full - i
+μ-loop part full v₀ i₀ v i = full - i
 
 loop-holds : tie.Need-loop-holds Inv-loop μ-loop
 unfolding chain

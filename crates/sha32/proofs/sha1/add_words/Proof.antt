@@ -1,5 +1,5 @@
 -- Each word is a sum of two (`sums-of`). Assumes nothing.
-use Rattle.sha.proofs.Sums.{sums-of}
+use Rattle.sha.proofs.Elements.{sums-of}
 use borrow.Author.Needs.{needs}
 use Rattle.sha32.proofs.sha1.add_words.Statement.{statement}
 use Rattle.sha32.proofs.sha1.add_words.Tie as tie

@@ -4,11 +4,8 @@ use borrow.Author.Needs.{needs}
 use Rattle.sha32.proofs.sha256.compress_block.Statement.{statement}
 use Rattle.sha32.proofs.sha256.compress_block.Tie as tie
 
-open-schedule-requires : tie.Need-open-schedule-requires
-open-schedule-requires c κs = search needs
-
-extend-schedule-requires : tie.Need-extend-schedule-requires
-extend-schedule-requires c κs = search needs
+load-block-requires : tie.Need-load-block-requires
+load-block-requires c κs = search needs
 
 run-rounds-requires : tie.Need-run-rounds-requires
 run-rounds-requires c κs = search needs
@@ -22,4 +19,4 @@ returns c = cc
 
 pub compress-block-spec : {M : Type 1} → statement M
 compress-block-spec =
-    tie.close (tie.spec open-schedule-requires extend-schedule-requires run-rounds-requires add-words-requires returns)
+    tie.close (tie.spec load-block-requires run-rounds-requires add-words-requires returns)

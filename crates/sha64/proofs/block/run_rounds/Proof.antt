@@ -1,66 +1,72 @@
--- Before a turn the working words are those after t rounds, and w holds the schedule's words from t on (`turn-held`). Assumes nothing.
-use Prim.Native.Nat.{_≤_, _-_, _%_}
+-- Before a turn the working words are those after its first round's number of rounds, and w holds the schedule's words from there on (`turn-held`). Assumes nothing.
+use Prim.Native.Nat.{_≤_, _+_, _-_, _*_}
 use lib.ListN.{length}
 use native.Mathlib.Omega.{arith}
 use mathlib.Core.Path.{_≡_, refl, _∙_}
-use Rattle.sha.specs.Sha2.{core512, mixed, rounds, schedule}
-use Rattle.sha.specs.Window.{stage}
-use Rattle.sha.proofs.Rounds.{local2, rounds-follow}
+use Rattle.sha.specs.Sha2.{core512, k512, mixed, rounds, schedule}
+use Rattle.sha.specs.Window.{keyed}
+use Rattle.sha.proofs.Rounds.{local2, rounds-follow, ran-keyed}
 use Rattle.sha.proofs.Windows.{Held, held-first, ran-held, turn-held}
 use borrow.Author.Needs.{needs}
 use Rattle.sha64.proofs.block.run_rounds.Statement.{statement}
 use Rattle.sha64.proofs.block.run_rounds.Tie as tie
 
 abbrev Inv-loop : tie.InvT-loop
-Inv-loop k s₀ w₀ t₀ s w t = (t ≤ 64) × (t % 16 ≡ 0) × (length w₀ ≡ 16) × (s ≡ rounds core512 t s₀ (schedule core512 64 w₀)) × Held 80 (schedule core512 64 w₀) t w
+Inv-loop x₀ turn₀ x turn =
+    (turn ≤ 4) × (length (x₀ .w) ≡ 16) × (x .s ≡ rounds core512 (16 * turn) (x₀ .s) (schedule core512 64 (x₀ .w))) × Held 80 (schedule core512 64 (x₀ .w)) (16 * turn) (x .w)
 
 abbrev μ-loop : tie.MeasureT-loop
-μ-loop k s₀ w₀ t₀ s w t = 64 - t
+μ-loop x₀ turn₀ x turn = 4 - turn
 
 loop-holds : tie.Need-loop-holds Inv-loop μ-loop
 unfolding rounds
-loop-holds c = (search needs, search needs, search needs, refl, held-first (mixed core512) (local2 core512) 64 _ (search needs))
+loop-holds c = (search needs, search needs, refl, held-first (mixed core512) (local2 core512) 64 _ (search needs))
 
-rounds-low-requires : tie.Need-rounds-low-requires Inv-loop μ-loop
-rounds-low-requires c κs = search needs
+constants-requires : tie.Need-constants-requires Inv-loop μ-loop
+constants-requires c κs = search needs
 
-renew-low-requires : tie.Need-renew-low-requires Inv-loop μ-loop
-renew-low-requires c κs = search needs
+steps-low-requires : tie.Need-steps-low-requires Inv-loop μ-loop
+steps-low-requires c κs = search needs
 
-rounds-high-requires : tie.Need-rounds-high-requires Inv-loop μ-loop
-rounds-high-requires c κs = search needs
+steps-high-requires : tie.Need-steps-high-requires Inv-loop μ-loop
+steps-high-requires c κs = search needs
 
-renew-high-requires : tie.Need-renew-high-requires Inv-loop μ-loop
-renew-high-requires c κs = search needs
-
-add-t : tie.Need-add-t Inv-loop μ-loop
-add-t c = search needs
+add-turn : tie.Need-add-turn Inv-loop μ-loop
+add-turn c = search needs
 
 loop-less : tie.Need-loop-less Inv-loop μ-loop
 loop-less c = search needs
 
 loop-again : tie.Need-loop-again Inv-loop μ-loop
 loop-again c =
-    let l = c .before .before .before .before .before .loop in
-    let a = c .before .before .before .before .before .before .args in
+    let l = c .before .before .before .before .loop in
+    let a = c .before .before .before .before .before .args in
+    let k = c .before .before .constants .ensures in
+    let low = c .before .steps-low .ensures in
+    let high = c .steps-high .ensures in
+    let e : 16 * l .turn + 16 ≡ 16 * (l .turn + 1) = omega arith in
     let more =
-    turn-held (mixed core512) (local2 core512) 64 (a .m) (l .inv .2) (stage core512) (λ t. rounds core512 t (a .h) (schedule core512 64 (a .m)))
-    (rounds-follow core512 (a .h) (schedule core512 64 (a .m))) (l .t) (l .inv .1) (l .w) (l .inv .4) (l .inv .3)
-    (c .before .before .before .rounds-low .ensures) _ _ (omega arith)
-    (c .before .before .renew-low .ensures) (c .before .rounds-high .ensures) (c .renew-high .ensures) in
-    (search needs, search needs, l .inv .2, more .0, more .1)
+    turn-held (mixed core512) (local2 core512) 64 (a .m) (l .inv .1) (keyed core512 k512) (λ t. rounds core512 t (a .h) (schedule core512 64 (a .m)))
+    (rounds-follow core512 (a .h) (schedule core512 64 (a .m))) (16 * l .turn) (omega arith) (l .x .w) (l .inv .3) (l .inv .2)
+    (low .0 ∙ ran-keyed core512 k512 (16 * l .turn) 0 8 _ _ k (omega arith)) _ _ (omega arith)
+    (low .1) (high .0 ∙ ran-keyed core512 k512 (16 * l .turn) 8 8 _ _ k (omega arith)) (high .1) in
+    (search needs, l .inv .1, rw e at (more .0), rw e at (more .1))
+
+constants-requires-2 : tie.Need-constants-requires-2 Inv-loop μ-loop
+constants-requires-2 c κs = search needs
 
 last-rounds-requires : tie.Need-last-rounds-requires Inv-loop μ-loop
 last-rounds-requires c κs = search needs
 
 returns : tie.Need-returns Inv-loop μ-loop
 returns c =
-    let l = c .before .before .loop in
-    let a = c .before .before .before .args in
-    let e : l .t ≡ 64 = omega arith in
+    let l = c .before .before .before .before .before .loop in
+    let a = c .before .before .before .before .before .before .args in
+    let e : l .turn ≡ 4 = omega arith in
     c .last-rounds .ensures
-    ∙ ran-held (stage core512) (λ t. rounds core512 t (a .h) (schedule core512 64 (a .m))) 80 (schedule core512 64 (a .m)) (rounds-follow core512 (a .h) (schedule core512 64 (a .m)))
-    64 0 64 16 (l .w) refl (omega arith) (omega arith) (omega arith) (rw e at (l .inv .4)) (rw e at (l .inv .3))
+    ∙ ran-keyed core512 k512 64 0 16 _ _ (c .before .constants2 .ensures) (omega arith)
+    ∙ ran-held (keyed core512 k512) (λ t. rounds core512 t (a .h) (schedule core512 64 (a .m))) 80 (schedule core512 64 (a .m)) (rounds-follow core512 (a .h) (schedule core512 64 (a .m)))
+    64 0 64 16 (l .x .w) refl (omega arith) (omega arith) (omega arith) (rw e at (l .inv .3)) (rw e at (l .inv .2))
 
 pub run-rounds-spec : {M : Type 1} → statement M
 run-rounds-spec =
@@ -69,12 +75,12 @@ run-rounds-spec =
     Inv-loop
     μ-loop
     loop-holds
-    rounds-low-requires
-    renew-low-requires
-    rounds-high-requires
-    renew-high-requires
-    add-t
+    constants-requires
+    steps-low-requires
+    steps-high-requires
+    add-turn
     loop-less
     loop-again
+    constants-requires-2
     last-rounds-requires
     returns)

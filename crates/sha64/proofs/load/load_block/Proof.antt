@@ -1,71 +1,192 @@
--- After i turns the first i words are the block's. Assumes nothing.
-use Prim.Native.Nat.{_≤_, _-_}
-use native.Mathlib.Omega.{arith}
-use mathlib.Core.Path.{_≡_, refl, sym, _∙_}
-use lib.ListN.{length, take, length-set}
-use lib.Seq.{take-all}
-use Rattle.sha.specs.Message.{words}
-use Rattle.sha.proofs.Blocks.{words-more}
+-- The words of the block, one by one (`words-of`). Assumes nothing.
+use Rattle.sha.proofs.Elements.{words-of}
 use borrow.Author.Needs.{needs}
 use Rattle.sha64.proofs.load.load_block.Statement.{statement}
 use Rattle.sha64.proofs.load.load_block.Tie as tie
 
-abbrev Inv-loop : tie.InvT-loop
-Inv-loop b at w₀ i₀ w i = (i ≤ 16) × (length w ≡ 16) × (take i w ≡ words 8 i b at)
-
-abbrev μ-loop : tie.MeasureT-loop
-μ-loop b at w₀ i₀ w i = 16 - i
-
-loop-holds : tie.Need-loop-holds Inv-loop μ-loop
-unfolding words
-loop-holds c = (search needs, refl, refl)
-
-mul-word-at : tie.Need-mul-word-at Inv-loop μ-loop
-mul-word-at c = search needs
-
-add-word-at : tie.Need-add-word-at Inv-loop μ-loop
+add-word-at : tie.Need-add-word-at
 add-word-at c = search needs
 
-word-at-requires : tie.Need-word-at-requires Inv-loop μ-loop
+word-at-requires : tie.Need-word-at-requires
 word-at-requires c κs = search needs
 
-mul-w : tie.Need-mul-w Inv-loop μ-loop
-mul-w c = search needs
+add-word-at-2 : tie.Need-add-word-at-2
+add-word-at-2 c = search needs
 
-array-write-w : tie.Need-array-write-w Inv-loop μ-loop
-array-write-w c = search needs
+word-at-requires-2 : tie.Need-word-at-requires-2
+word-at-requires-2 c κs = search needs
 
-add-i : tie.Need-add-i Inv-loop μ-loop
-add-i c = search needs
+add-word-at-3 : tie.Need-add-word-at-3
+add-word-at-3 c = search needs
 
-loop-less : tie.Need-loop-less Inv-loop μ-loop
-loop-less c = search needs
+word-at-requires-3 : tie.Need-word-at-requires-3
+word-at-requires-3 c κs = search needs
 
-loop-again : tie.Need-loop-again Inv-loop μ-loop
-loop-again c =
-    let l = c .before .before .loop in
-    let a = c .before .before .before .before .args in
-    (search needs, simp length-set (l .inv .1), words-more 8 (l .i) (a .at) (c .word-at .result) (a .b .now) (l .w) (omega arith) (l .inv .2) (c .word-at .ensures))
+add-word-at-4 : tie.Need-add-word-at-4
+add-word-at-4 c = search needs
 
-returns : tie.Need-returns Inv-loop μ-loop
+word-at-requires-4 : tie.Need-word-at-requires-4
+word-at-requires-4 c κs = search needs
+
+add-word-at-5 : tie.Need-add-word-at-5
+add-word-at-5 c = search needs
+
+word-at-requires-5 : tie.Need-word-at-requires-5
+word-at-requires-5 c κs = search needs
+
+add-word-at-6 : tie.Need-add-word-at-6
+add-word-at-6 c = search needs
+
+word-at-requires-6 : tie.Need-word-at-requires-6
+word-at-requires-6 c κs = search needs
+
+add-word-at-7 : tie.Need-add-word-at-7
+add-word-at-7 c = search needs
+
+word-at-requires-7 : tie.Need-word-at-requires-7
+word-at-requires-7 c κs = search needs
+
+add-word-at-8 : tie.Need-add-word-at-8
+add-word-at-8 c = search needs
+
+word-at-requires-8 : tie.Need-word-at-requires-8
+word-at-requires-8 c κs = search needs
+
+add-word-at-9 : tie.Need-add-word-at-9
+add-word-at-9 c = search needs
+
+word-at-requires-9 : tie.Need-word-at-requires-9
+word-at-requires-9 c κs = search needs
+
+add-word-at-10 : tie.Need-add-word-at-10
+add-word-at-10 c = search needs
+
+word-at-requires-10 : tie.Need-word-at-requires-10
+word-at-requires-10 c κs = search needs
+
+add-word-at-11 : tie.Need-add-word-at-11
+add-word-at-11 c = search needs
+
+word-at-requires-11 : tie.Need-word-at-requires-11
+word-at-requires-11 c κs = search needs
+
+add-word-at-12 : tie.Need-add-word-at-12
+add-word-at-12 c = search needs
+
+word-at-requires-12 : tie.Need-word-at-requires-12
+word-at-requires-12 c κs = search needs
+
+add-word-at-13 : tie.Need-add-word-at-13
+add-word-at-13 c = search needs
+
+word-at-requires-13 : tie.Need-word-at-requires-13
+word-at-requires-13 c κs = search needs
+
+add-word-at-14 : tie.Need-add-word-at-14
+add-word-at-14 c = search needs
+
+word-at-requires-14 : tie.Need-word-at-requires-14
+word-at-requires-14 c κs = search needs
+
+add-word-at-15 : tie.Need-add-word-at-15
+add-word-at-15 c = search needs
+
+word-at-requires-15 : tie.Need-word-at-requires-15
+word-at-requires-15 c κs = search needs
+
+add-word-at-16 : tie.Need-add-word-at-16
+add-word-at-16 c = search needs
+
+word-at-requires-16 : tie.Need-word-at-requires-16
+word-at-requires-16 c κs = search needs
+
+returns : tie.Need-returns
 returns c =
-    let l = c .before .loop in
-    let e : l .i ≡ 16 = omega arith in
-    sym (take-all 16 (l .w) (omega arith)) ∙ rw e at (l .inv .2)
+    let a = c .before .before .before .before .before .before .before .before .before .before .before .before .before .before .before .before .before .args in
+    words-of 8 (a .b .now) (a .at) _ (
+      c .before .before .before .before .before .before .before .before .before .before .before .before .before .before .before .word-at .ensures,
+      (
+        c .before .before .before .before .before .before .before .before .before .before .before .before .before .before .word-at2 .ensures,
+        (
+          c .before .before .before .before .before .before .before .before .before .before .before .before .before .word-at3 .ensures,
+          (
+            c .before .before .before .before .before .before .before .before .before .before .before .before .word-at4 .ensures,
+            (
+              c .before .before .before .before .before .before .before .before .before .before .before .word-at5 .ensures,
+              (
+                c .before .before .before .before .before .before .before .before .before .before .word-at6 .ensures,
+                (
+                  c .before .before .before .before .before .before .before .before .before .word-at7 .ensures,
+                  (
+                    c .before .before .before .before .before .before .before .before .word-at8 .ensures,
+                    (
+                      c .before .before .before .before .before .before .before .word-at9 .ensures,
+                      (
+                        c .before .before .before .before .before .before .word-at10 .ensures,
+                        (
+                          c .before .before .before .before .before .word-at11 .ensures,
+                          (
+                            c .before .before .before .before .word-at12 .ensures,
+                            (
+                              c .before .before .before .word-at13 .ensures,
+                              (
+                                c .before .before .word-at14 .ensures,
+                                (
+                                  c .before .word-at15 .ensures,
+                                  (
+                                    c .word-at16 .ensures,
+                                    tt,
+                                  ),
+                                ),
+                              ),
+                            ),
+                          ),
+                        ),
+                      ),
+                    ),
+                  ),
+                ),
+              ),
+            ),
+          ),
+        ),
+      ),
+    )
 
 pub load-block-spec : {M : Type 1} → statement M
 load-block-spec =
     tie.close
     (tie.spec
-    Inv-loop
-    μ-loop
-    loop-holds
-    mul-word-at
     add-word-at
     word-at-requires
-    mul-w
-    array-write-w
-    add-i
-    loop-less
-    loop-again
+    add-word-at-2
+    word-at-requires-2
+    add-word-at-3
+    word-at-requires-3
+    add-word-at-4
+    word-at-requires-4
+    add-word-at-5
+    word-at-requires-5
+    add-word-at-6
+    word-at-requires-6
+    add-word-at-7
+    word-at-requires-7
+    add-word-at-8
+    word-at-requires-8
+    add-word-at-9
+    word-at-requires-9
+    add-word-at-10
+    word-at-requires-10
+    add-word-at-11
+    word-at-requires-11
+    add-word-at-12
+    word-at-requires-12
+    add-word-at-13
+    word-at-requires-13
+    add-word-at-14
+    word-at-requires-14
+    add-word-at-15
+    word-at-requires-15
+    add-word-at-16
+    word-at-requires-16
     returns)
