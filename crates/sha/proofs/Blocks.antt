@@ -2,11 +2,11 @@
 use mathlib.Core.Path.{_≡_, refl, sym, ap, ap₂, _∙_}
 use mathlib.Core.List.{List, [], _∷_, _++_, append-assoc, append-nil}
 use Prim.Native.Nat.{ℕ, zero, suc, _+_, _-_, _*_, _/_, _%_, _^_, _<_, _≤_}
-use native.Mathlib.Nat.{add-assoc, mul-add, mul-suc, mul-comm, add-zero, add-suc, not-suc-le-zero, mul-one, mul-zero, pow-zero, pow-suc, div-one, div-div-eq-div-mul}
+use native.Mathlib.Nat.{add-assoc, mul-add, mul-suc, mul-comm, add-zero, add-suc, mul-one, mul-zero, pow-zero, pow-suc, div-one, div-div-eq-div-mul}
 use native.Mathlib.Numerals.{add-one}
 use native.Mathlib.Omega.{arith}
 use lib.ListN.{length, getD, take, drop, set, replicate, length-append, take-append-drop, List·getD-append}
-use lib.Seq.{take-suc, take-suc-set, take-at, set-at, append-snoc, getD-take, getD-drop, drop-append-le, length-take-le, take-all, take-append-le}
+use lib.Seq.{take-suc, take-suc-set, take-at, set-at, drop-cons, append-snoc, getD-take, getD-drop, drop-append-le, length-take-le, take-all, take-append-le}
 use Rattle.endian.specs.Numbers.{big, bytes}
 use Rattle.endian.proofs.Numbers.{big-same, length-bytes}
 use Rattle.sha.specs.Message.{words, allBytes}
@@ -130,11 +130,6 @@ put-last o at w i x e h =
 pub shift-first : (w x : ℕ) → x ≡ x / 256 ^ (w - w)
 shift-first w x = let n : w - w ≡ 0 = omega arith in rw (n, pow-zero 256) (sym (div-one x))
 
-pub take-replicate : (k n a : ℕ) → k ≤ n → take k (replicate n a) ≡ replicate k a
-take-replicate zero n a h = refl
-take-replicate (suc k) zero a h = absurd (not-suc-le-zero h)
-take-replicate (suc k) (suc n) a h = ap (λ (l : List ℕ). a ∷ l) (take-replicate k n a (omega arith))
-
 -- a byte more of a copy into zeros
 pub copy-more : (s : List ℕ) (n i : ℕ) → i < length s → i < n
     → set (take i s ++ replicate (n - i) 0) i (getD s i 0) ≡ take (i + 1) s ++ replicate (n - (i + 1)) 0
@@ -143,6 +138,27 @@ copy-more s n i h b =
     rw e (store-zero (take i s) (n - (i + 1)) i (getD s i 0) (length-take-le i s (omega arith)))
     ∙ sym (append-snoc (take i s) (getD s i 0) (replicate (n - (i + 1)) 0))
     ∙ rw (add-one i, take-suc s i 0 h)
+
+-- a store over the first byte that is left of a buffer: a byte more of a copy into it, and the bit 1 behind the whole copy
+store-over : (p d : List ℕ) (i v : ℕ) → length p ≡ i → i < length d → set (p ++ drop i d) i v ≡ p ++ v ∷ drop (i + 1) d
+store-over p d i v e h = rw (drop-cons d i 0 h, add-one i) (set-at p (getD d i 0) (drop (suc i) d) v i e)
+
+pub copy-over : (s d : List ℕ) (i : ℕ) → i < length s → i < length d → set (take i s ++ drop i d) i (getD s i 0) ≡ take (i + 1) s ++ drop (i + 1) d
+copy-over s d i h b =
+    store-over (take i s) d i (getD s i 0) (length-take-le i s (omega arith)) b
+    ∙ sym (append-snoc (take i s) (getD s i 0) (drop (i + 1) d))
+    ∙ rw (add-one i, take-suc s i 0 h)
+
+pub open-end : (s d : List ℕ) (i : ℕ) → i ≡ length s → i < length d → set (take i s ++ drop i d) i 128 ≡ s ++ 128 ∷ drop (length s + 1) d
+open-end s d i e h = rw (take-all i s (omega arith), ← e) (store-over s d i 128 (omega arith) h)
+
+-- a part of a list of one number
+pub part-replicate : (k m n a : ℕ) → k + n ≤ m → take n (drop k (replicate m a)) ≡ replicate n a
+part-replicate k m zero a h = refl
+part-replicate zero zero (suc n) a h = absurd (omega arith)
+part-replicate zero (suc m) (suc n) a h = ap (λ (l : List ℕ). a ∷ l) (part-replicate zero m n a (omega arith))
+part-replicate (suc k) zero (suc n) a h = absurd (omega arith)
+part-replicate (suc k) (suc m) (suc n) a h = part-replicate k m (suc n) a (omega arith)
 
 -- BYTES of words
 
@@ -178,10 +194,3 @@ all-bytes-front z n (suc k) x xs h =
     ap (λ (y : ℕ). take x (allBytes z y xs)) (add-suc n k)
     ∙ take-append-le x (allBytes z (n + k) xs) (bytes z (getD xs (n + k) 0)) (omega (arith, length-all-bytes z (n + k) xs, mul-add z n k))
     ∙ all-bytes-front z n k x xs h
-
--- THE LAST BLOCKS
-
-pub open-end : (s : List ℕ) (n i : ℕ) → i ≡ length s → i < n → set (take i s ++ replicate (n - i) 0) i 128 ≡ s ++ 128 ∷ replicate (n - 1 - length s) 0
-open-end s n i e h =
-    let k : n - i ≡ n - 1 - length s + 1 = omega arith in
-    rw (k, take-all i s (omega arith)) (store-zero s (n - 1 - length s) i 128 (omega arith))

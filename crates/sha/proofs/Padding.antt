@@ -11,7 +11,7 @@ use Rattle.sha.specs.Message.{words, padding, padded, LengthField}
 use Rattle.endian.specs.Numbers.{big, bytes}
 use Rattle.endian.proofs.Numbers.{length-bytes, big-same, big-bytes}
 use Rattle.sha.specs.Hash.{Hash, chain, chained}
-use Rattle.sha.proofs.Blocks.{chain-one, chain-two, take-replicate, chain-split, words-take}
+use Rattle.sha.proofs.Blocks.{chain-one, chain-two, chain-split, words-take, part-replicate}
 
 length-padding-of : (z n : ℕ) → length (padding z n) ≡ (30 * z - 1 - n % (16 * z)) % (16 * z) + 1 + 2 * z
 unfolding padding
@@ -96,9 +96,10 @@ bytes-length w n =
     let b : n % 32 * 8 ≡ 8 * n / 256 ^ 0 % 256 = omega arith in
     rw (a, b) (sym (bytes-append w 1 (8 * n)))
 
--- the last blocks, from a store of the length's bytes but the last (hi), and then of that (lo), over a message's last bytes, the bit 1 and zeros
-module _ (z : ℕ) (rest t u : List ℕ) (n e k hi lo : ℕ) (pos : 0 < z) (le : length rest + 1 + 2 * z ≤ e) (ge : e ≤ length rest + 1 + k)
-    (et : t ≡ rest ++ 128 ∷ replicate k 0)
+-- the last blocks, from stores over zeros (o): of a message's last bytes and the bit 1 (t), of the length's bytes but the last (u, hi), and of
+-- that (lo)
+module _ (z : ℕ) (rest o t u : List ℕ) (n e hi lo : ℕ) (pos : 0 < z) (le : length rest + 1 + 2 * z ≤ e) (ge : e ≤ length o) (gu : e ≤ length u)
+    (eo : o ≡ replicate (length o) 0) (et : t ≡ rest ++ 128 ∷ drop (length rest + 1) o)
     (eu : u ≡ take (e - 2 * z) t ++ bytes (2 * z - 1) hi ++ drop (e - 2 * z + (2 * z - 1)) t) (ehi : hi ≡ n / 32) (elo : lo ≡ n % 32 * 8) where
   zs : ℕ
   zs = e - (1 + 2 * z) - length rest
@@ -107,14 +108,14 @@ module _ (z : ℕ) (rest t u : List ℕ) (n e k hi lo : ℕ) (pos : 0 < z) (le :
   unfolding zs
   front =
       let i : e - 2 * z ≡ length rest + suc zs = omega arith in
-      rw (et, i, take-append-add rest (128 ∷ replicate k 0) (suc zs), take-replicate zs k 0 (omega arith))
+      let d : List ℕ = drop (length rest + 1) o in
+      let f : take zs d ≡ replicate zs 0 =
+      ap (λ (l : List ℕ). take zs (drop (length rest + 1) l)) eo ∙ part-replicate (length rest + 1) (length o) zs 0 (omega arith) in
+      rw (et, i, take-append-add rest (128 ∷ d) (suc zs), f)
 
   long : length (rest ++ 128 ∷ replicate zs 0) ≡ e - 2 * z
   unfolding zs
   long = simp (length-append, length-replicate) (omega arith)
-
-  length-t : length t ≡ length rest + 1 + k
-  length-t = ap length et ∙ simp (length-append, length-replicate) (omega arith)
 
   pub closed-of : take e (set u (e - 1) lo) ≡ rest ++ (128 ∷ replicate (e - (1 + 2 * z) - length rest) 0) ++ bytes (2 * z) (8 * n)
   unfolding zs
@@ -124,12 +125,10 @@ module _ (z : ℕ) (rest t u : List ℕ) (n e k hi lo : ℕ) (pos : 0 < z) (le :
       let d : List ℕ = drop (e - 2 * z + (2 * z - 1)) t in
       let fu : u ≡ p ++ q ++ d = eu ∙ ap (λ (l : List ℕ). l ++ q ++ d) front in
       let lp : length (p ++ q) ≡ e - 1 = length-append p q ∙ omega (arith, long, length-bytes (2 * z - 1) hi) in
-      let lu : length u ≡ length t = ap length fu ∙ length-append (p ++ q) d ∙ omega (arith, lp, length-drop (e - 2 * z + (2 * z - 1)) t, length-t) in
-      let h : e - 1 < length u = omega (arith, lu, length-t) in
       let s : e ≡ suc (e - 1) = omega arith in
       let w : 2 * z ≡ 2 * z - 1 + 1 = omega arith in
       ap (λ (x : ℕ). take x (set u (e - 1) lo)) s
-      ∙ take-suc-set u (e - 1) lo h
+      ∙ take-suc-set u (e - 1) lo (omega arith)
       ∙ ap (λ (l : List ℕ). l ++ (lo ∷ [])) (ap (take (e - 1)) fu ∙ take-at (p ++ q) d (e - 1) lp)
       ∙ append-assoc p q (lo ∷ [])
       ∙ ap (λ (l : List ℕ). p ++ l) (rw (ehi, elo) (bytes-length (2 * z - 1) n) ∙ ap (λ (x : ℕ). bytes x (8 * n)) (sym w))

@@ -19,29 +19,26 @@ pub fn put_number(out: &mut [u8], at: usize, width: usize, x: u64)
     }
 }
 
-// A message's last bytes, the bit 1 and zeros.
-fn open_tail(rest: &[u8]) -> [u8; 256]
-    requires { ⌜ length (now rest) < 256 ⌝ }
-    ensures { λ r. ⌜ r ≡ now (rest .entry) ++ 128 ∷ replicate (255 - length (now (rest .entry))) 0 ⌝ }
+// Puts a message's last bytes and the bit 1 at the start of a buffer.
+fn open_tail(out: &mut [u8], rest: &[u8])
+    requires { ⌜ length (now rest) < length (now out) ⌝ }
+    ensures { λ r. ⌜ now (out .exit) ≡ now (rest .entry) ++ 128 ∷ drop (length (now (rest .entry)) + 1) (now (out .entry)) ⌝ }
 {
-    let mut t = [0u8; 256];
     let mut i: usize = 0;
     while i < rest.len() {
-        t[i] = rest[i];
+        out[i] = rest[i];
         i += 1;
     }
-    t[i] = 128;
-    t
+    out[i] = 128;
 }
 
-// The same, with the length in bits of a message of n bytes, a number of two words, at the end of the first e bytes. 8 * n can exceed a
-// machine word, so its last byte and those before it are taken from n.
-pub fn close_tail(rest: &[u8], n: usize, e: usize, z: usize) -> [u8; 256]
-    requires { ⌜ (length (now rest) + 1 + 2 * z ≤ e) × (e ≤ 256) × (0 < z) ⌝ }
-    ensures { λ r. ⌜ take e r ≡ now (rest .entry) ++ (128 ∷ replicate (e - (1 + 2 * z) - length (now (rest .entry))) 0) ++ bytes (2 * z) (8 * n) ⌝ }
+// The same, with the length in bits of a message of n bytes, a number of two words, at the end of the buffer's first e bytes. The
+// buffer is lent as zeros. 8 * n can exceed a machine word, so its last byte and those before it are taken from n.
+pub fn close_tail(out: &mut [u8], rest: &[u8], n: usize, e: usize, z: usize)
+    requires { ⌜ (now out ≡ replicate (length (now out)) 0) × (e ≤ length (now out)) × (length (now rest) + 1 + 2 * z ≤ e) × (0 < z) ⌝ }
+    ensures { λ r. ⌜ take e (now (out .exit)) ≡ now (rest .entry) ++ (128 ∷ replicate (e - (1 + 2 * z) - length (now (rest .entry))) 0) ++ bytes (2 * z) (8 * n) ⌝ }
 {
-    let mut t = open_tail(rest);
-    put_number(&mut t, e - 2 * z, 2 * z - 1, (n / 32) as u64);
-    t[e - 1] = (n % 32 * 8) as u8;
-    t
+    open_tail(out, rest);
+    put_number(out, e - 2 * z, 2 * z - 1, (n / 32) as u64);
+    out[e - 1] = (n % 32 * 8) as u8;
 }

@@ -91,7 +91,8 @@ pub fn finish(function: Function, h: [u32; 8], rest: &[u8], n: usize) -> [u32; 8
     ensures { λ r. ⌜ take (hash32 function .count) r ≡ chained (hash32 function) (take (hash32 function .count) h) (now (rest .entry) ++ padding 4 n) ⌝ }
 {
     let end = 64 * ((rest.len() + 8) / 64 + 1);
-    let t = sha::close_tail(rest, n, end, 4);
+    let mut t = [0u8; 256];
+    sha::close_tail(&mut t, rest, n, end, 4);
     let v = compress_block(function, h, &t, 0);
     if end == 64 {
         return v;

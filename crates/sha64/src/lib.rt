@@ -56,7 +56,8 @@ fn finish(h: [u64; 8], rest: &[u8], n: usize) -> [u64; 8]
     ensures { λ r. ⌜ r ≡ chained sha384 h (now (rest .entry) ++ padding 8 n) ⌝ }
 {
     let end = 128 * ((rest.len() + 16) / 128 + 1);
-    let t = sha::close_tail(rest, n, end, 8);
+    let mut t = [0u8; 256];
+    sha::close_tail(&mut t, rest, n, end, 8);
     let v = compress_block(h, &t, 0);
     if end == 128 {
         return v;

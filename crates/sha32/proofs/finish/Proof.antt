@@ -16,6 +16,9 @@ add-end-2 c = search needs
 mul-end : tie.Need-mul-end
 mul-end c = search needs
 
+slice-aggregate-close-tail : tie.Need-slice-aggregate-close-tail
+slice-aggregate-close-tail c = search needs
+
 close-tail-requires : tie.Need-close-tail-requires
 close-tail-requires c κs = search needs
 
@@ -27,9 +30,9 @@ compress-block-requires c κs = search needs
 
 returns : tie.Need-returns
 returns c =
-    let a = c .before .before .before .before .before .args in
-    let t = c .before .before .before .close-tail in
-    one-block (hash32 (a .function)) 4 (size32 (a .function)) (omega arith) _ (a .rest .now) (t .result) _ (a .n) _
+    let t = c .before .before .before .before .close-tail in
+    let a = c .before .before .before .before .before .before .before .args in
+    one-block (hash32 (a .function)) 4 (size32 (a .function)) (omega arith) _ (a .rest .now) (t .last .0) _ (a .n) _
     (omega arith) (omega arith) (t .ensures) (omega arith) (c .before .compress-block .ensures)
 
 slice-aggregate-compress-block-2 : tie.Need-slice-aggregate-compress-block-2
@@ -40,9 +43,9 @@ compress-block-requires-2 c κs = search needs
 
 returns-2 : tie.Need-returns-2
 returns-2 c =
-    let a = c .before .before .before .before .before .before .before .args in
-    let t = c .before .before .before .before .before .close-tail in
-    two-blocks (hash32 (a .function)) 4 (size32 (a .function)) (omega arith) _ (a .rest .now) (t .result) _ _ (a .n) _
+    let t = c .before .before .before .before .before .before .close-tail in
+    let a = c .before .before .before .before .before .before .before .before .before .args in
+    two-blocks (hash32 (a .function)) 4 (size32 (a .function)) (omega arith) _ (a .rest .now) (t .last .0) _ _ (a .n) _
     (omega arith) (omega arith) (omega arith) (t .ensures) (omega arith) (c .before .before .before .compress-block .ensures) (c .compress-block2 .ensures)
 
 pub finish-spec : {M : Type 1} → statement M
@@ -52,6 +55,7 @@ finish-spec =
     add-end
     add-end-2
     mul-end
+    slice-aggregate-close-tail
     close-tail-requires
     slice-aggregate-compress-block
     compress-block-requires
