@@ -72,16 +72,11 @@ chain-more f z ez h m i ev er = rw (add-one i, er, ev, ez)
 -- STORES
 
 -- one more element of an array that is filled from its start
-pub take-more : {l : List ℕ} (w : List ℕ) (i v : ℕ) → i < length w → take i w ≡ l → take (i + 1) (set w i v) ≡ l ++ (v ∷ [])
+take-more : {l : List ℕ} (w : List ℕ) (i v : ℕ) → i < length w → take i w ≡ l → take (i + 1) (set w i v) ≡ l ++ (v ∷ [])
 take-more w i v h e = rw (add-one, take-suc-set w i v, e)
 
 pub take-copy : (s w : List ℕ) (i : ℕ) → i < length s → i < length w → take i w ≡ take i s → take (i + 1) (set w i (getD s i 0)) ≡ take (i + 1) s
 take-copy s w i h b e = take-more w i (getD s i 0) b e ∙ rw (add-one i, take-suc s i 0 h)
-
-pub words-more : (z i j v : ℕ) (m w : List ℕ) → i < length w → take i w ≡ words z i m j → v ≡ big z m (j + z * i)
-    → take (i + 1) (set w i v) ≡ words z (i + 1) m j
-unfolding words
-words-more z i j v m w h e ev = take-more w i v h e ∙ rw (add-one, ev)
 
 store-zero : (p : List ℕ) (k i v : ℕ) → length p ≡ i → set (p ++ replicate (k + 1) 0) i v ≡ p ++ v ∷ replicate k 0
 store-zero p k i v e = rw (add-one k) (set-at p 0 (replicate k 0) v i e)

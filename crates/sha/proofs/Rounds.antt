@@ -1,7 +1,7 @@
 -- Laws of SHA-2's round and schedule, over the functions of a word. Assumes nothing.
-use mathlib.Core.Path.{_≡_, refl}
+use mathlib.Core.Path.{_≡_, refl, _∙_}
 use mathlib.Core.List.{List, [], _∷_}
-use Prim.Native.Nat.{ℕ, zero, suc, _+_, _-_, _%_, _<_, _≤_}
+use Prim.Native.Nat.{ℕ, zero, suc, _+_, _-_, _*_, _%_, _<_, _≤_}
 use native.Mathlib.Omega.{arith}
 use lib.ListN.{getD, take, drop, set}
 use lib.Seq.{getD-take, getD-drop}
@@ -36,6 +36,10 @@ renewed-of q w i v h ev =
 pub rounds-follow : (q : Core) (h ws : List ℕ) (t : ℕ) → rounds q (suc t) h ws ≡ keyed q (q .table) t (rounds q t h ws) (getD ws t 0)
 unfolding rounds
 rounds-follow q h ws t = refl
+
+-- the constants of a turn are those of the table ks from its first round t on
+pub turn-constants : (ks : List ℕ) (t turn : ℕ) {k r : List ℕ} → k ≡ ks → t ≡ 16 * turn → r ≡ take 16 (drop t k) → r ≡ take 16 (drop (16 * turn) ks)
+turn-constants ks t turn ek et er = er ∙ rw (ek, et)
 
 -- the rounds of a turn from t on, with the sixteen constants of the turn, are those with the table
 pub ran-keyed : (q : Core) (ks : List ℕ) (t i n : ℕ) (s w : List ℕ) {k : List ℕ} → k ≡ take 16 (drop t ks) → i + n ≤ 16

@@ -1,7 +1,8 @@
--- Each way is a part of the table (`sixteen`). Assumes nothing.
-use mathlib.Core.Path.{_≡_, _∙_}
+-- Each way is the part of the table that its turn has (`turn-constants`). Assumes nothing.
+use mathlib.Core.Path.{refl}
 use native.Mathlib.Omega.{arith}
 use Rattle.sha.specs.Sha2.{k512}
+use Rattle.sha.proofs.Rounds.{turn-constants}
 use borrow.Author.Needs.{needs}
 use Rattle.sha64.proofs.block.constants.Statement.{statement}
 use Rattle.sha64.proofs.block.constants.Tie as tie
@@ -23,33 +24,23 @@ sixteen-requires-5 c κs = search needs
 
 returns : tie.Need-returns
 unfolding k512
-returns c =
-    let e : c .before .before .args .turn ≡ 0 = omega arith in
-    c .sixteen .ensures ∙ rw e
+returns c = turn-constants k512 0 (c .before .before .args .turn) refl (omega arith) (c .sixteen .ensures)
 
 returns-2 : tie.Need-returns-2
 unfolding k512
-returns-2 c =
-    let e : c .before .before .args .turn ≡ 1 = omega arith in
-    c .sixteen2 .ensures ∙ rw e
+returns-2 c = turn-constants k512 16 (c .before .before .args .turn) refl (omega arith) (c .sixteen2 .ensures)
 
 returns-3 : tie.Need-returns-3
 unfolding k512
-returns-3 c =
-    let e : c .before .before .args .turn ≡ 2 = omega arith in
-    c .sixteen3 .ensures ∙ rw e
+returns-3 c = turn-constants k512 32 (c .before .before .args .turn) refl (omega arith) (c .sixteen3 .ensures)
 
 returns-4 : tie.Need-returns-4
 unfolding k512
-returns-4 c =
-    let e : c .before .before .args .turn ≡ 3 = omega arith in
-    c .sixteen4 .ensures ∙ rw e
+returns-4 c = turn-constants k512 48 (c .before .before .args .turn) refl (omega arith) (c .sixteen4 .ensures)
 
 returns-5 : tie.Need-returns-5
 unfolding k512
-returns-5 c =
-    let e : c .before .before .args .turn ≡ 4 = omega arith in
-    c .sixteen5 .ensures ∙ rw e
+returns-5 c = turn-constants k512 64 (c .before .before .args .turn) refl (omega arith) (c .sixteen5 .ensures)
 
 pub constants-spec : {M : Type 1} → statement M
 constants-spec =
