@@ -5,6 +5,7 @@ pub mod Digests
 pub mod Windows
 pub mod Rounds
 pub mod Rounds1
+pub mod LastSixteen
 pub mod Elements
 pub mod Short
 pub mod Rotations

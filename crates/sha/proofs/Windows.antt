@@ -95,6 +95,12 @@ module _ (f : Rule) (near : Local f) (n : ℕ) (ms : List ℕ) (sixteen : length
       let e : t + suc k ≡ t + k + 1 = omega arith in
       rw e (held-renewed (t + k) (i + k) (rolled f i k w) (omega arith) (held-rolled t i k w at o))
 
+-- after t new words, those of a schedule that has no more
+pub last-held : (f : Rule) → Local f → (t : ℕ) (ms : List ℕ) → length ms ≡ 16 → (j : ℕ) → t ≤ j → j < t + 16
+    → getD (rolled f 0 t ms) (j % 16) 0 ≡ getD (grown f t ms) j 0
+last-held f near t ms sixteen j a b =
+    held-rolled f near t ms sixteen 0 0 t ms refl (held-first f near t ms sixteen) .held j (omega arith) (omega arith) (omega arith)
+
 -- EIGHT STEPS from place i on: a round with the word at its place, then the new word there
 
 -- a place that no new word took

@@ -1,10 +1,12 @@
 -- Rounds over a schedule of which sixteen words are kept: each new word stands in the place of the word sixteen before it. No definition of a
--- hash function is made of these; they are what contracts of private functions say, and proofs tie them to the whole schedule.
-use Prim.Native.Nat.{ℕ, zero, suc, _+_, _-_, _%_}
+-- hash function is made of these; they are what contracts of the block steps say, and `LastSixteen` ties them to the whole schedule.
+use Prim.Native.Nat.{ℕ, zero, suc, _+_, _-_, _%_, _<_, _≤_}
 use mathlib.Core.List.{List}
-use lib.ListN.{getD, set}
+use mathlib.Core.Path.{_≡_}
+use lib.ListN.{length, getD, set}
 use Rattle.sha.specs.Schedule.{Rule}
-use Rattle.sha.specs.Sha2.{Core, round}
+use Rattle.sha.specs.Sha1.{mixed1, schedule1}
+use Rattle.sha.specs.Sha2.{Core, round, mixed, schedule}
 
 -- sixteen words whose word at place i, modulo 16, has given way to the one sixteen after it
 unfoldable pub renewed : Rule → ℕ → List ℕ → List ℕ
@@ -14,6 +16,11 @@ renewed f i w = set w (i % 16) (f (λ d. getD w ((i + 16 - d) % 16) 0))
 unfoldable pub rolled : Rule → ℕ → ℕ → List ℕ → List ℕ
 rolled f i zero w = w
 rolled f i (suc n) w = renewed f (i + n) (rolled f i n w)
+
+-- of the block ms, after t new words, these are the last sixteen of the schedule's 16 + t: word j at place j modulo 16
+pub record LastSixteen (t : ℕ) (ms : List ℕ) : Type 0 where
+  pub by-sha1 : length ms ≡ 16 → (j : ℕ) → t ≤ j → j < t + 16 → getD (rolled mixed1 0 t ms) (j % 16) 0 ≡ getD (schedule1 t ms) j 0
+  pub by-sha2 : (q : Core) → length ms ≡ 16 → (j : ℕ) → t ≤ j → j < t + 16 → getD (rolled (mixed q) 0 t ms) (j % 16) 0 ≡ getD (schedule q t ms) j 0
 
 -- a round, from its number, the working words and a word of the schedule
 abbrev pub Round : Type 0
