@@ -68,22 +68,24 @@ module _ (k : ℕ) (m : List ℕ) where
         sym (take-take (widthOf k) (f .width) d le) ∙ ap (take (widthOf k)) e ∙ sym (digest-cut f (widthOf k) le m) ∙ rw (← ef) in
         er ∙ rw (ew, t)
 
+-- words of 4 bytes have at most 32
+pub narrow-width : (k : ℕ) → (k ≡ sha384Type → ⊥) → widthOf k ≤ 32
+narrow-width k h =
+    rw (← width-is k)
+    (by-number (λ f. f .width ≤ 32) k (λ e. omega arith) (λ e. omega arith) (λ e. omega arith) (λ e. absurd (h e)) (λ a b c d. omega arith))
+
 -- the functions of words of 4 bytes, of which the kinds are cuts
 pub cut-sha1 : (k : ℕ) → k ≡ sha1Type → (hashOf k ≡ cutTo (widthOf k) sha1) × (widthOf k ≤ 20)
 unfolding hashOf widthOf slotWidths lookup
 cut-sha1 k e = rw e (refl, omega arith)
 
 pub cut-sha256 : (k : ℕ) → 0 < widthOf k → (k ≡ sha1Type → ⊥) → (k ≡ sha384Type → ⊥) → (hashOf k ≡ cutTo (widthOf k) sha256) × (widthOf k ≤ 32)
-cut-sha256 k h h₁ h₄ =
-    rw (← width-is k)
-    (by-number (λ f. 0 < f .width → (f ≡ cutTo (f .width) sha256) × (f .width ≤ 32)) k
-    (λ i. absurd (h₁ i)) (λ i l. (refl, omega arith)) (λ i l. (refl, omega arith)) (λ i. absurd (h₄ i)) (λ a b c d l. absurd (omega arith)) (rw (width-is k) h))
-
--- words of 4 bytes have at most 32
-pub narrow-width : (k : ℕ) → (k ≡ sha384Type → ⊥) → widthOf k ≤ 32
-narrow-width k h =
-    rw (← width-is k)
-    (by-number (λ f. f .width ≤ 32) k (λ e. omega arith) (λ e. omega arith) (λ e. omega arith) (λ e. absurd (h e)) (λ a b c d. omega arith))
+cut-sha256 k h h₁ h₄ = (
+  rw (← width-is k)
+      (by-number (λ f. 0 < f .width → f ≡ cutTo (f .width) sha256) k
+      (λ i. absurd (h₁ i)) (λ i l. refl) (λ i l. refl) (λ i. absurd (h₄ i)) (λ a b c d l. absurd (omega arith)) (rw (width-is k) h)),
+  narrow-width k h₄,
+)
 
 -- EACH KIND
 

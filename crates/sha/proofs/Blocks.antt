@@ -7,7 +7,7 @@ use native.Mathlib.Numerals.{add-one}
 use native.Mathlib.Omega.{arith}
 use lib.ListN.{length, getD, take, drop, set, replicate, length-append, take-append-drop, List·getD-append}
 use lib.Seq.{take-suc, take-suc-set, take-at, set-at, drop-cons, append-snoc, getD-take, getD-drop, drop-append-le, length-take-le, take-all, take-append-le}
-use Rattle.endian.specs.Numbers.{big, bytes}
+use Rattle.endian.specs.Numbers.{bytes}
 use Rattle.endian.proofs.Numbers.{big-same, length-bytes}
 use Rattle.sha.specs.Message.{words, allBytes}
 use Rattle.sha.specs.Hash.{Hash, chain}
@@ -72,11 +72,8 @@ chain-more f z ez h m i ev er = rw (add-one i, er, ev, ez)
 -- STORES
 
 -- one more element of an array that is filled from its start
-take-more : {l : List ℕ} (w : List ℕ) (i v : ℕ) → i < length w → take i w ≡ l → take (i + 1) (set w i v) ≡ l ++ (v ∷ [])
-take-more w i v h e = rw (add-one, take-suc-set w i v, e)
-
 pub take-copy : (s w : List ℕ) (i : ℕ) → i < length s → i < length w → take i w ≡ take i s → take (i + 1) (set w i (getD s i 0)) ≡ take (i + 1) s
-take-copy s w i h b e = take-more w i (getD s i 0) b e ∙ rw (add-one i, take-suc s i 0 h)
+take-copy s w i h b e = rw (add-one i, take-suc-set w i (getD s i 0) b, e, take-suc s i 0 h)
 
 store-zero : (p : List ℕ) (k i v : ℕ) → length p ≡ i → set (p ++ replicate (k + 1) 0) i v ≡ p ++ v ∷ replicate k 0
 store-zero p k i v e = rw (add-one k) (set-at p 0 (replicate k 0) v i e)

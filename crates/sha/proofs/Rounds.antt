@@ -7,7 +7,7 @@ use lib.ListN.{getD, take, drop, set}
 use lib.Seq.{getD-take, getD-drop}
 use Rattle.sha.specs.Words.{plus}
 use Rattle.sha.specs.Sha2.{Core, t1, t2, turned, round, rounds, mix, mixed}
-use Rattle.sha.specs.Window.{renewed, ran, keyed}
+use Rattle.sha.specs.Window.{renewed, ran, roundWith}
 use Rattle.sha.proofs.Windows.{Local}
 
 pub round-of : (q : Core) (s : List ℕ) (k w : ℕ) {x y a e : ℕ}
@@ -33,19 +33,19 @@ renewed-of q w i v h ev =
     let m : i % 16 ≡ i = omega arith in
     rw (a, b, c, d, m, ev)
 
-pub rounds-follow : (q : Core) (h ws : List ℕ) (t : ℕ) → rounds q (suc t) h ws ≡ keyed q (q .table) t (rounds q t h ws) (getD ws t 0)
+pub rounds-follow : (q : Core) (h ws : List ℕ) (t : ℕ) → rounds q (suc t) h ws ≡ roundWith q (q .table) t (rounds q t h ws) (getD ws t 0)
 unfolding rounds
 rounds-follow q h ws t = refl
 
 -- the constants of a turn are those of the table ks from its first round t on
-pub turn-constants : (ks : List ℕ) (t turn : ℕ) {k r : List ℕ} → k ≡ ks → t ≡ 16 * turn → r ≡ take 16 (drop t k) → r ≡ take 16 (drop (16 * turn) ks)
-turn-constants ks t turn ek et er = er ∙ rw (ek, et)
+pub turn-constants : (ks : List ℕ) (t turn : ℕ) {k r : List ℕ} → r ≡ take 16 (drop t k) → t ≡ 16 * turn → k ≡ ks → r ≡ take 16 (drop (16 * turn) ks)
+turn-constants ks t turn er et ek = er ∙ rw (ek, et)
 
 -- the rounds of a turn from t on, with the sixteen constants of the turn, are those with the table
-pub ran-keyed : (q : Core) (ks : List ℕ) (t i n : ℕ) (s w : List ℕ) {k : List ℕ} → k ≡ take 16 (drop t ks) → i + n ≤ 16
-    → ran (keyed q k) 0 i n s w ≡ ran (keyed q ks) t i n s w
+pub ran-turn : (q : Core) (ks : List ℕ) (t i n : ℕ) (s w : List ℕ) {k : List ℕ} → k ≡ take 16 (drop t ks) → i + n ≤ 16
+    → ran (roundWith q k) 0 i n s w ≡ ran (roundWith q ks) t i n s w
 unfolding ran
-ran-keyed q ks t i zero s w ek h = refl
-ran-keyed q ks t i (suc n) s w {k} ek h =
+ran-turn q ks t i zero s w ek h = refl
+ran-turn q ks t i (suc n) s w {k} ek h =
     let z : 0 + (i + n) ≡ i + n = omega arith in
-    rw (z, ran-keyed q ks t i n s w ek (omega arith), ek, getD-take 16 (drop t ks) (i + n) 0 (omega arith), getD-drop t ks (i + n) 0)
+    rw (z, ran-turn q ks t i n s w ek (omega arith), ek, getD-take 16 (drop t ks) (i + n) 0 (omega arith), getD-drop t ks (i + n) 0)

@@ -8,7 +8,7 @@ use native.Mathlib.Omega.{arith}
 use lib.ListN.{length, getD, length-append, length-set, List·getD-append}
 use lib.Seq.{getD-at, getD-set-same, getD-set-other}
 use Rattle.sha.specs.Schedule.{Rule, grown}
-use Rattle.sha.specs.Window.{Round, renewed, rolled, ran}
+use Rattle.sha.specs.Window.{Last, Round, renewed, rolled, ran}
 
 -- a rule that asks for the sixteen words before a word alone
 abbrev pub Local : Rule → Type 0
@@ -95,11 +95,16 @@ module _ (f : Rule) (near : Local f) (n : ℕ) (ms : List ℕ) (sixteen : length
       let e : t + suc k ≡ t + k + 1 = omega arith in
       rw e (held-renewed (t + k) (i + k) (rolled f i k w) (omega arith) (held-rolled t i k w at o))
 
--- after t new words, those of a schedule that has no more
-pub last-held : (f : Rule) → Local f → (t : ℕ) (ms : List ℕ) → length ms ≡ 16 → (j : ℕ) → t ≤ j → j < t + 16
-    → getD (rolled f 0 t ms) (j % 16) 0 ≡ getD (grown f t ms) j 0
-last-held f near t ms sixteen j a b =
-    held-rolled f near t ms sixteen 0 0 t ms refl (held-first f near t ms sixteen) .held j (omega arith) (omega arith) (omega arith)
+-- the same of a schedule that has no more words than the sixteen reach
+pub last-block : (f : Rule) → Local f → (ms : List ℕ) → length ms ≡ 16 → Last f ms 0 ms
+last-block f near ms sixteen j a b = held-first f near 0 ms sixteen .held j a b (omega arith)
+
+pub last-renewed : (f : Rule) → Local f → (ms w : List ℕ) (t i : ℕ) → length ms ≡ 16 → length w ≡ 16 → t % 16 ≡ i % 16 → Last f ms t w
+    → Last f ms (t + 1) (renewed f i w)
+last-renewed f near ms w t i sixteen wide at last j a b =
+    let o : Held (16 + (t + 1)) (grown f (t + 1) ms) t w =
+    record { wide = wide; held = λ j c d e. last j c d ∙ sym (grown-keeps f t 1 ms j (omega arith)) } in
+    held-renewed f near (t + 1) ms sixteen t i w at o .held j a b (omega arith)
 
 -- EIGHT STEPS from place i on: a round with the word at its place, then the new word there
 
@@ -152,11 +157,6 @@ module _ (g : Round) (t : ℕ) (s w : List ℕ) where
 
 -- THE ROUNDS: those with the words kept are those with the schedule, whose working words after t rounds are `after t`
 module _ (g : Round) (after : ℕ → List ℕ) (n : ℕ) (ws : List ℕ) (more : (t : ℕ) → after (suc t) ≡ g t (after t) (getD ws t 0)) where
-  pub round-held : (t : ℕ) (w : List ℕ) {s r : List ℕ} → t < n → Held n ws t w → s ≡ after t → r ≡ g t s (getD w (t % 16) 0) → r ≡ after (t + 1)
-  round-held t w h o es er =
-      let e : t + 1 ≡ suc t = omega arith in
-      er ∙ rw (es, o .held t (omega arith) (omega arith) h, e, more t)
-
   pub ran-held : (t i a k : ℕ) (w : List ℕ) {s : List ℕ} → t % 16 ≡ 0 → a ≤ t + i → t + (i + k) ≤ a + 16 → t + (i + k) ≤ n → Held n ws a w
       → s ≡ after (t + i) → ran g t i k s w ≡ after (t + (i + k))
   unfolding ran

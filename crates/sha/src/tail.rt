@@ -33,7 +33,7 @@ fn open_tail(out: &mut [u8], rest: &[u8])
 }
 
 // The same, with the length in bits of a message of n bytes, a number of two words, at the end of the buffer's first e bytes. The
-// buffer is lent as zeros. 8 * n can exceed a machine word, so its last byte and those before it are taken from n.
+// buffer is lent as zeros, and of its bytes behind these nothing is claimed. 8 * n can exceed a machine word, so its last byte and those before it are taken from n.
 pub fn close_tail(out: &mut [u8], rest: &[u8], n: usize, e: usize, z: usize)
     requires { ⌜ (now out ≡ replicate (length (now out)) 0) × (e ≤ length (now out)) × (length (now rest) + 1 + 2 * z ≤ e) × (0 < z) ⌝ }
     ensures { λ r. ⌜ take e (now (out .exit)) ≡ now (rest .entry) ++ (128 ∷ replicate (e - (1 + 2 * z) - length (now (rest .entry))) 0) ++ bytes (2 * z) (8 * n) ⌝ }

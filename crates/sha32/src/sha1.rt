@@ -1,7 +1,8 @@
 // The block step of SHA-1, FIPS 180-4, section 6.1.2.
 //
 // Names are the standard's: a block's words w, the working words s (a to e), T, the hash value h. Sixteen words of the schedule are kept:
-// each new one stands in the place of the one sixteen before it, behind the round that uses that one. Places are literal.
+// each new one stands in the place of the one sixteen before it, behind the round that uses that one. Every call gives
+// its place as a literal.
 use super::load::load_block;
 use super::word::add;
 use super::word::choose;
@@ -81,27 +82,27 @@ fn renew_word(m: [u32; 16], i: usize) -> [u32; 16]
 }
 
 // The working words, and the sixteen words of the schedule that are kept.
-struct Kept {
+struct State {
     s: [u32; 5],
     w: [u32; 16],
 }
 
 // Round t + i, with the word at place i, and then the new word there.
-fn step(x: Kept, t: usize, i: usize) -> Kept
-    requires { ⌜ (t < 65) × (i < 16) ⌝ }
+fn step(x: State, t: usize, i: usize) -> State
+    requires { ⌜ (t ≤ 64) × (i < 16) ⌝ }
     ensures { λ r. ⌜ (r .s ≡ round1 (t + i) (x .s) (getD (x .w) i 0)) × (r .w ≡ renewed mixed1 i (x .w)) ⌝ }
 {
     let s = x.s;
     let w = x.w;
-    Kept {
+    State {
         s: round_step(t + i, s, w[i]),
         w: renew_word(w, i),
     }
 }
 
 // The first eight rounds of a turn of sixteen from t on, with their new words.
-fn steps_low(x: Kept, t: usize) -> Kept
-    requires { ⌜ t < 65 ⌝ }
+fn steps_low(x: State, t: usize) -> State
+    requires { ⌜ t ≤ 64 ⌝ }
     ensures { λ r. ⌜ (r .s ≡ ran round1 t 0 8 (x .s) (x .w)) × (r .w ≡ rolled mixed1 0 8 (x .w)) ⌝ }
 {
     let x1 = step(x, t, 0);
@@ -115,9 +116,9 @@ fn steps_low(x: Kept, t: usize) -> Kept
     x8
 }
 
-// The other eight.
-fn steps_high(x: Kept, t: usize) -> Kept
-    requires { ⌜ t < 65 ⌝ }
+// The last eight rounds of the turn, with their new words.
+fn steps_high(x: State, t: usize) -> State
+    requires { ⌜ t ≤ 64 ⌝ }
     ensures { λ r. ⌜ (r .s ≡ ran round1 t 8 8 (x .s) (x .w)) × (r .w ≡ rolled mixed1 8 8 (x .w)) ⌝ }
 {
     let x1 = step(x, t, 8);
@@ -158,7 +159,7 @@ fn last_rounds(s: [u32; 5], w: [u32; 16]) -> [u32; 5]
 fn run_rounds(h: [u32; 5], m: [u32; 16]) -> [u32; 5]
     ensures { λ r. ⌜ r ≡ rounds1 80 h (schedule1 64 m) ⌝ }
 {
-    let mut x = Kept { s: h, w: m };
+    let mut x = State { s: h, w: m };
     let mut t: usize = 0;
     while t < 64 {
         let y = steps_low(x, t);

@@ -1,8 +1,8 @@
 // The block step of SHA-256, FIPS 180-4, section 6.2.2.
 //
 // Names are the standard's: a block's words w, the working words s (a to h), T1 and T2, the hash value h. Sixteen words of the schedule
-// are kept: each new one stands in the place of the one sixteen before it, behind the round that uses that one. Places are literal, and so
-// are the indices of the table of constants: neither needs an array in memory.
+// are kept: each new one stands in the place of the one sixteen before it, behind the round that uses that one. Every call gives its place
+// as a literal, and so its index in the table of constants: neither needs an array in memory.
 use super::load::load_block;
 use super::word::add;
 use super::word::big_sigma0;
@@ -17,7 +17,7 @@ ghost use lib.ListN.{length, getD, take, drop};
 ghost use Rattle.sha.specs.Words.{sums};
 ghost use Rattle.sha.specs.Message.{words};
 ghost use Rattle.sha.specs.Sha2.{t1, t2, round, rounds, mix, mixed, schedule, compress, core256, k256};
-ghost use Rattle.sha.specs.Window.{renewed, rolled, ran, keyed};
+ghost use Rattle.sha.specs.Window.{renewed, rolled, ran, roundWith};
 
 // The round constants, section 4.2.2.
 const K256: [u32; 64] = [
@@ -143,8 +143,8 @@ fn add_words(h: [u32; 8], s: [u32; 8]) -> [u32; 8]
     ]
 }
 
-// The sixteen constants from round t on.
-fn sixteen(k: [u32; 64], t: usize) -> [u32; 16]
+// The constants of sixteen rounds, from round t on.
+fn constants_from(k: [u32; 64], t: usize) -> [u32; 16]
     requires { ⌜ t + 16 ≤ 64 ⌝ }
     ensures { λ r. ⌜ r ≡ take 16 (drop t k) ⌝ }
 {
@@ -168,7 +168,7 @@ fn sixteen(k: [u32; 64], t: usize) -> [u32; 16]
     ]
 }
 
-// The constants of a turn of sixteen rounds. The compiler keeps what a `match` like this one chooses from with the program, and no
+// The constants of a turn of sixteen rounds. The compiler puts what such a `match` chooses among into the program's constants, so that no
 // table is built on the stack.
 fn constants(turn: usize) -> [u32; 16]
     requires { ⌜ turn < 4 ⌝ }
@@ -176,43 +176,43 @@ fn constants(turn: usize) -> [u32; 16]
 {
     let k = K256;
     match turn {
-        0 => sixteen(k, 0),
-        1 => sixteen(k, 16),
-        2 => sixteen(k, 32),
-        _ => sixteen(k, 48),
+        0 => constants_from(k, 0),
+        1 => constants_from(k, 16),
+        2 => constants_from(k, 32),
+        _ => constants_from(k, 48),
     }
 }
 
 // Round i of a turn, with the constant and the word at place i.
 fn round_at(s: [u32; 8], w: [u32; 16], k: [u32; 16], i: usize) -> [u32; 8]
     requires { ⌜ i < 16 ⌝ }
-    ensures { λ r. ⌜ r ≡ keyed core256 k i s (getD w i 0) ⌝ }
+    ensures { λ r. ⌜ r ≡ roundWith core256 k i s (getD w i 0) ⌝ }
 {
     round_step(s, k[i], w[i])
 }
 
 // The working words, and the sixteen words of the schedule that are kept.
-struct Kept {
+struct State {
     s: [u32; 8],
     w: [u32; 16],
 }
 
 // Round i of a turn, and then the new word at place i.
-fn step(x: Kept, k: [u32; 16], i: usize) -> Kept
+fn step(x: State, k: [u32; 16], i: usize) -> State
     requires { ⌜ i < 16 ⌝ }
-    ensures { λ r. ⌜ (r .s ≡ keyed core256 k i (x .s) (getD (x .w) i 0)) × (r .w ≡ renewed (mixed core256) i (x .w)) ⌝ }
+    ensures { λ r. ⌜ (r .s ≡ roundWith core256 k i (x .s) (getD (x .w) i 0)) × (r .w ≡ renewed (mixed core256) i (x .w)) ⌝ }
 {
     let s = x.s;
     let w = x.w;
-    Kept {
+    State {
         s: round_at(s, w, k, i),
         w: renew_word(w, i),
     }
 }
 
 // The first eight rounds of a turn, with their new words.
-fn steps_low(x: Kept, k: [u32; 16]) -> Kept
-    ensures { λ r. ⌜ (r .s ≡ ran (keyed core256 k) 0 0 8 (x .s) (x .w)) × (r .w ≡ rolled (mixed core256) 0 8 (x .w)) ⌝ }
+fn steps_low(x: State, k: [u32; 16]) -> State
+    ensures { λ r. ⌜ (r .s ≡ ran (roundWith core256 k) 0 0 8 (x .s) (x .w)) × (r .w ≡ rolled (mixed core256) 0 8 (x .w)) ⌝ }
 {
     let x1 = step(x, k, 0);
     let x2 = step(x1, k, 1);
@@ -225,9 +225,9 @@ fn steps_low(x: Kept, k: [u32; 16]) -> Kept
     x8
 }
 
-// The other eight.
-fn steps_high(x: Kept, k: [u32; 16]) -> Kept
-    ensures { λ r. ⌜ (r .s ≡ ran (keyed core256 k) 0 8 8 (x .s) (x .w)) × (r .w ≡ rolled (mixed core256) 8 8 (x .w)) ⌝ }
+// The last eight rounds of a turn, with their new words.
+fn steps_high(x: State, k: [u32; 16]) -> State
+    ensures { λ r. ⌜ (r .s ≡ ran (roundWith core256 k) 0 8 8 (x .s) (x .w)) × (r .w ≡ rolled (mixed core256) 8 8 (x .w)) ⌝ }
 {
     let x1 = step(x, k, 8);
     let x2 = step(x1, k, 9);
@@ -242,7 +242,7 @@ fn steps_high(x: Kept, k: [u32; 16]) -> Kept
 
 // The sixteen rounds of the last turn, which needs no new word.
 fn last_rounds(s: [u32; 8], w: [u32; 16], k: [u32; 16]) -> [u32; 8]
-    ensures { λ r. ⌜ r ≡ ran (keyed core256 k) 0 0 16 s w ⌝ }
+    ensures { λ r. ⌜ r ≡ ran (roundWith core256 k) 0 0 16 s w ⌝ }
 {
     let s1 = round_at(s, w, k, 0);
     let s2 = round_at(s1, w, k, 1);
@@ -267,7 +267,7 @@ fn last_rounds(s: [u32; 8], w: [u32; 16], k: [u32; 16]) -> [u32; 8]
 fn run_rounds(h: [u32; 8], m: [u32; 16]) -> [u32; 8]
     ensures { λ r. ⌜ r ≡ rounds core256 64 h (schedule core256 48 m) ⌝ }
 {
-    let mut x = Kept { s: h, w: m };
+    let mut x = State { s: h, w: m };
     let mut turn: usize = 0;
     while turn < 3 {
         let k = constants(turn);

@@ -1,8 +1,8 @@
 // The block step of SHA-384 and SHA-512, FIPS 180-4, section 6.4.2.
 //
 // Names are the standard's: a block's words w, the working words s (a to h), T1 and T2, the hash value h. Sixteen words of the schedule
-// are kept: each new one stands in the place of the one sixteen before it, behind the round that uses that one. Places are literal, and so
-// are the indices of the table of constants: neither needs an array in memory.
+// are kept: each new one stands in the place of the one sixteen before it, behind the round that uses that one. Every call gives its place
+// as a literal, and so its index in the table of constants: neither needs an array in memory.
 use super::load::load_block;
 use super::word::add;
 use super::word::big_sigma0;
@@ -17,10 +17,10 @@ ghost use lib.ListN.{length, getD, take, drop};
 ghost use Rattle.sha.specs.Words.{sums};
 ghost use Rattle.sha.specs.Message.{words};
 ghost use Rattle.sha.specs.Sha2.{t1, t2, round, rounds, mix, mixed, schedule, compress, core512, k512};
-ghost use Rattle.sha.specs.Window.{renewed, rolled, ran, keyed};
+ghost use Rattle.sha.specs.Window.{renewed, rolled, ran, roundWith};
 
 // The round constants, section 4.2.3.
-pub const K512: [u64; 80] = [
+const K512: [u64; 80] = [
     0x428a2f98d728ae22,
     0x7137449123ef65cd,
     0xb5c0fbcfec4d3b2f,
@@ -159,8 +159,8 @@ fn add_words(h: [u64; 8], s: [u64; 8]) -> [u64; 8]
     ]
 }
 
-// The sixteen constants from round t on.
-fn sixteen(k: [u64; 80], t: usize) -> [u64; 16]
+// The constants of sixteen rounds, from round t on.
+fn constants_from(k: [u64; 80], t: usize) -> [u64; 16]
     requires { ⌜ t + 16 ≤ 80 ⌝ }
     ensures { λ r. ⌜ r ≡ take 16 (drop t k) ⌝ }
 {
@@ -184,7 +184,7 @@ fn sixteen(k: [u64; 80], t: usize) -> [u64; 16]
     ]
 }
 
-// The constants of a turn of sixteen rounds. The compiler keeps what a `match` like this one chooses from with the program, and no
+// The constants of a turn of sixteen rounds. The compiler puts what such a `match` chooses among into the program's constants, so that no
 // table is built on the stack.
 fn constants(turn: usize) -> [u64; 16]
     requires { ⌜ turn < 5 ⌝ }
@@ -192,44 +192,44 @@ fn constants(turn: usize) -> [u64; 16]
 {
     let k = K512;
     match turn {
-        0 => sixteen(k, 0),
-        1 => sixteen(k, 16),
-        2 => sixteen(k, 32),
-        3 => sixteen(k, 48),
-        _ => sixteen(k, 64),
+        0 => constants_from(k, 0),
+        1 => constants_from(k, 16),
+        2 => constants_from(k, 32),
+        3 => constants_from(k, 48),
+        _ => constants_from(k, 64),
     }
 }
 
 // Round i of a turn, with the constant and the word at place i.
 fn round_at(s: [u64; 8], w: [u64; 16], k: [u64; 16], i: usize) -> [u64; 8]
     requires { ⌜ i < 16 ⌝ }
-    ensures { λ r. ⌜ r ≡ keyed core512 k i s (getD w i 0) ⌝ }
+    ensures { λ r. ⌜ r ≡ roundWith core512 k i s (getD w i 0) ⌝ }
 {
     round_step(s, k[i], w[i])
 }
 
 // The working words, and the sixteen words of the schedule that are kept.
-struct Kept {
+struct State {
     s: [u64; 8],
     w: [u64; 16],
 }
 
 // Round i of a turn, and then the new word at place i.
-fn step(x: Kept, k: [u64; 16], i: usize) -> Kept
+fn step(x: State, k: [u64; 16], i: usize) -> State
     requires { ⌜ i < 16 ⌝ }
-    ensures { λ r. ⌜ (r .s ≡ keyed core512 k i (x .s) (getD (x .w) i 0)) × (r .w ≡ renewed (mixed core512) i (x .w)) ⌝ }
+    ensures { λ r. ⌜ (r .s ≡ roundWith core512 k i (x .s) (getD (x .w) i 0)) × (r .w ≡ renewed (mixed core512) i (x .w)) ⌝ }
 {
     let s = x.s;
     let w = x.w;
-    Kept {
+    State {
         s: round_at(s, w, k, i),
         w: renew_word(w, i),
     }
 }
 
 // The first eight rounds of a turn, with their new words.
-fn steps_low(x: Kept, k: [u64; 16]) -> Kept
-    ensures { λ r. ⌜ (r .s ≡ ran (keyed core512 k) 0 0 8 (x .s) (x .w)) × (r .w ≡ rolled (mixed core512) 0 8 (x .w)) ⌝ }
+fn steps_low(x: State, k: [u64; 16]) -> State
+    ensures { λ r. ⌜ (r .s ≡ ran (roundWith core512 k) 0 0 8 (x .s) (x .w)) × (r .w ≡ rolled (mixed core512) 0 8 (x .w)) ⌝ }
 {
     let x1 = step(x, k, 0);
     let x2 = step(x1, k, 1);
@@ -242,9 +242,9 @@ fn steps_low(x: Kept, k: [u64; 16]) -> Kept
     x8
 }
 
-// The other eight.
-fn steps_high(x: Kept, k: [u64; 16]) -> Kept
-    ensures { λ r. ⌜ (r .s ≡ ran (keyed core512 k) 0 8 8 (x .s) (x .w)) × (r .w ≡ rolled (mixed core512) 8 8 (x .w)) ⌝ }
+// The last eight rounds of a turn, with their new words.
+fn steps_high(x: State, k: [u64; 16]) -> State
+    ensures { λ r. ⌜ (r .s ≡ ran (roundWith core512 k) 0 8 8 (x .s) (x .w)) × (r .w ≡ rolled (mixed core512) 8 8 (x .w)) ⌝ }
 {
     let x1 = step(x, k, 8);
     let x2 = step(x1, k, 9);
@@ -259,7 +259,7 @@ fn steps_high(x: Kept, k: [u64; 16]) -> Kept
 
 // The sixteen rounds of the last turn, which needs no new word.
 fn last_rounds(s: [u64; 8], w: [u64; 16], k: [u64; 16]) -> [u64; 8]
-    ensures { λ r. ⌜ r ≡ ran (keyed core512 k) 0 0 16 s w ⌝ }
+    ensures { λ r. ⌜ r ≡ ran (roundWith core512 k) 0 0 16 s w ⌝ }
 {
     let s1 = round_at(s, w, k, 0);
     let s2 = round_at(s1, w, k, 1);
@@ -284,7 +284,7 @@ fn last_rounds(s: [u64; 8], w: [u64; 16], k: [u64; 16]) -> [u64; 8]
 fn run_rounds(h: [u64; 8], m: [u64; 16]) -> [u64; 8]
     ensures { λ r. ⌜ r ≡ rounds core512 80 h (schedule core512 64 m) ⌝ }
 {
-    let mut x = Kept { s: h, w: m };
+    let mut x = State { s: h, w: m };
     let mut turn: usize = 0;
     while turn < 4 {
         let k = constants(turn);

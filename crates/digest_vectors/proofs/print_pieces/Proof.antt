@@ -1,23 +1,20 @@
--- Pieces are whole blocks, so what is left has n % 64 bytes. The table is `k256` by computation. Assumes nothing.
+-- Pieces are whole blocks, so what is left has n % 64 bytes. Assumes nothing.
 use Prim.Native.Nat.{_-_, _/_, _≤_}
-use mathlib.Core.Path.{refl}
 use borrow.Author.Needs.{needs}
-use Rattle.sha.specs.Sha2.{k256}
 use Rattle.digest_vectors.proofs.print_pieces.Statement.{statement}
 use Rattle.digest_vectors.proofs.print_pieces.Tie as tie
 
 abbrev Inv-loop : tie.InvT-loop
-Inv-loop piece n k v₀ i₀ v i = i ≤ n / 8192
+Inv-loop piece n v₀ i₀ v i = i ≤ n / 8192
 
 abbrev μ-loop : tie.MeasureT-loop
-μ-loop piece n k v₀ i₀ v i = n / 8192 - i
+μ-loop piece n v₀ i₀ v i = n / 8192 - i
 
 loop-holds : tie.Need-loop-holds Inv-loop μ-loop
 loop-holds c = search needs
 
 absorb-requires : tie.Need-absorb-requires Inv-loop μ-loop
-unfolding k256
-absorb-requires c κs = refl
+absorb-requires c κs = search needs
 
 add-i : tie.Need-add-i Inv-loop μ-loop
 add-i c = search needs
@@ -41,8 +38,7 @@ part-absorb-end : tie.Need-part-absorb-end Inv-loop μ-loop
 part-absorb-end c = search needs
 
 absorb-requires-2 : tie.Need-absorb-requires-2 Inv-loop μ-loop
-unfolding k256
-absorb-requires-2 c κs = refl
+absorb-requires-2 c κs = search needs
 
 sub-finish : tie.Need-sub-finish Inv-loop μ-loop
 sub-finish c = search needs
@@ -54,8 +50,7 @@ part-finish-end : tie.Need-part-finish-end Inv-loop μ-loop
 part-finish-end c = search needs
 
 finish-requires : tie.Need-finish-requires Inv-loop μ-loop
-unfolding k256
-finish-requires c κs = (search needs, refl)
+finish-requires c κs = search needs
 
 write-value-requires : tie.Need-write-value-requires Inv-loop μ-loop
 write-value-requires c κs = search needs

@@ -1,5 +1,5 @@
 -- The whole blocks of the part, then its last bytes with the padding, are the blocks of the padded part (`whole`). Assumes nothing.
-use mathlib.Core.Path.{_≡_, refl}
+use mathlib.Core.Path.{_≡_}
 use native.Mathlib.Omega.{arith}
 use lib.ListN.{take, length}
 use Prim.Native.Nat.{_/_}

@@ -7,42 +7,42 @@ use borrow.Author.Needs.{needs}
 use Rattle.sha32.proofs.sha256.constants.Statement.{statement}
 use Rattle.sha32.proofs.sha256.constants.Tie as tie
 
-sixteen-requires : tie.Need-sixteen-requires
-sixteen-requires c κs = search needs
+constants-from-requires : tie.Need-constants-from-requires
+constants-from-requires c κs = search needs
 
-sixteen-requires-2 : tie.Need-sixteen-requires-2
-sixteen-requires-2 c κs = search needs
+constants-from-requires-2 : tie.Need-constants-from-requires-2
+constants-from-requires-2 c κs = search needs
 
-sixteen-requires-3 : tie.Need-sixteen-requires-3
-sixteen-requires-3 c κs = search needs
+constants-from-requires-3 : tie.Need-constants-from-requires-3
+constants-from-requires-3 c κs = search needs
 
-sixteen-requires-4 : tie.Need-sixteen-requires-4
-sixteen-requires-4 c κs = search needs
+constants-from-requires-4 : tie.Need-constants-from-requires-4
+constants-from-requires-4 c κs = search needs
 
 returns : tie.Need-returns
 unfolding k256
-returns c = turn-constants k256 0 (c .before .before .args .turn) refl (omega arith) (c .sixteen .ensures)
+returns c = turn-constants k256 0 (c .before .before .args .turn) (c .constants-from .ensures) (omega arith) refl
 
 returns-2 : tie.Need-returns-2
 unfolding k256
-returns-2 c = turn-constants k256 16 (c .before .before .args .turn) refl (omega arith) (c .sixteen2 .ensures)
+returns-2 c = turn-constants k256 16 (c .before .before .args .turn) (c .constants-from2 .ensures) (omega arith) refl
 
 returns-3 : tie.Need-returns-3
 unfolding k256
-returns-3 c = turn-constants k256 32 (c .before .before .args .turn) refl (omega arith) (c .sixteen3 .ensures)
+returns-3 c = turn-constants k256 32 (c .before .before .args .turn) (c .constants-from3 .ensures) (omega arith) refl
 
 returns-4 : tie.Need-returns-4
 unfolding k256
-returns-4 c = turn-constants k256 48 (c .before .before .args .turn) refl (omega arith) (c .sixteen4 .ensures)
+returns-4 c = turn-constants k256 48 (c .before .before .args .turn) (c .constants-from4 .ensures) (omega arith) refl
 
 pub constants-spec : {M : Type 1} → statement M
 constants-spec =
     tie.close
     (tie.spec
-    sixteen-requires
-    sixteen-requires-2
-    sixteen-requires-3
-    sixteen-requires-4
+    constants-from-requires
+    constants-from-requires-2
+    constants-from-requires-3
+    constants-from-requires-4
     returns
     returns-2
     returns-3

@@ -1,6 +1,6 @@
 -- Sixteen rounds, one after the other (`sixteen-rounds`). Assumes nothing.
 use Rattle.sha.specs.Sha2.{core256}
-use Rattle.sha.specs.Window.{keyed}
+use Rattle.sha.specs.Window.{roundWith}
 use Rattle.sha.proofs.Windows.{sixteen-rounds}
 use borrow.Author.Needs.{needs}
 use Rattle.sha32.proofs.sha256.last_rounds.Statement.{statement}
@@ -57,7 +57,7 @@ round-at-requires-16 c κs = search needs
 returns : tie.Need-returns
 returns c =
     let a = c .before .before .before .before .before .before .before .before .before .before .before .before .before .before .before .before .args in
-    sixteen-rounds (keyed core256 (a .k)) 0 (a .s) (a .w)
+    sixteen-rounds (roundWith core256 (a .k)) 0 (a .s) (a .w)
     (c .before .before .before .before .before .before .before .before .before .before .before .before .before .before .before .round-at .ensures)
     (c .before .before .before .before .before .before .before .before .before .before .before .before .before .before .round-at2 .ensures)
     (c .before .before .before .before .before .before .before .before .before .before .before .before .before .round-at3 .ensures)

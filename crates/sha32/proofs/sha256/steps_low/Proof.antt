@@ -1,7 +1,7 @@
 -- Eight steps, one after the other (`eight-steps`). Assumes nothing.
 use native.Mathlib.Omega.{arith}
 use Rattle.sha.specs.Sha2.{core256, mixed}
-use Rattle.sha.specs.Window.{keyed}
+use Rattle.sha.specs.Window.{roundWith}
 use Rattle.sha.proofs.Windows.{eight-steps}
 use borrow.Author.Needs.{needs}
 use Rattle.sha32.proofs.sha256.steps_low.Statement.{statement}
@@ -34,7 +34,7 @@ step-requires-8 c κs = search needs
 returns : tie.Need-returns
 returns c =
     let a = c .before .before .before .before .before .before .before .before .args in
-    eight-steps (mixed core256) (keyed core256 (a .k)) 0 0 (omega arith) (a .x .s) (a .x .w)
+    eight-steps (mixed core256) (roundWith core256 (a .k)) 0 0 (omega arith) (a .x .s) (a .x .w)
     (c .before .before .before .before .before .before .before .step .ensures)
     (c .before .before .before .before .before .before .step2 .ensures)
     (c .before .before .before .before .before .step3 .ensures)

@@ -4,8 +4,8 @@ use lib.ListN.{length}
 use native.Mathlib.Omega.{arith}
 use mathlib.Core.Path.{_≡_, refl, _∙_}
 use Rattle.sha.specs.Sha2.{core512, k512, mixed, rounds, schedule}
-use Rattle.sha.specs.Window.{keyed}
-use Rattle.sha.proofs.Rounds.{local2, rounds-follow, ran-keyed}
+use Rattle.sha.specs.Window.{roundWith}
+use Rattle.sha.proofs.Rounds.{local2, rounds-follow, ran-turn}
 use Rattle.sha.proofs.Windows.{Held, held-first, ran-held, turn-held}
 use borrow.Author.Needs.{needs}
 use Rattle.sha64.proofs.block.run_rounds.Statement.{statement}
@@ -46,10 +46,10 @@ loop-again c =
     let high = c .steps-high .ensures in
     let e : 16 * l .turn + 16 ≡ 16 * (l .turn + 1) = omega arith in
     let more =
-    turn-held (mixed core512) (local2 core512) 64 (a .m) (l .inv .1) (keyed core512 k512) (λ t. rounds core512 t (a .h) (schedule core512 64 (a .m)))
+    turn-held (mixed core512) (local2 core512) 64 (a .m) (l .inv .1) (roundWith core512 k512) (λ t. rounds core512 t (a .h) (schedule core512 64 (a .m)))
     (rounds-follow core512 (a .h) (schedule core512 64 (a .m))) (16 * l .turn) (omega arith) (l .x .w) (l .inv .3) (l .inv .2)
-    (low .0 ∙ ran-keyed core512 k512 (16 * l .turn) 0 8 _ _ k (omega arith)) _ _ (omega arith)
-    (low .1) (high .0 ∙ ran-keyed core512 k512 (16 * l .turn) 8 8 _ _ k (omega arith)) (high .1) in
+    (low .0 ∙ ran-turn core512 k512 (16 * l .turn) 0 8 _ _ k (omega arith)) _ _ (omega arith)
+    (low .1) (high .0 ∙ ran-turn core512 k512 (16 * l .turn) 8 8 _ _ k (omega arith)) (high .1) in
     (search needs, l .inv .1, rw e at (more .0), rw e at (more .1))
 
 constants-requires-2 : tie.Need-constants-requires-2 Inv-loop μ-loop
@@ -64,8 +64,8 @@ returns c =
     let a = c .before .before .before .before .before .before .args in
     let e : l .turn ≡ 4 = omega arith in
     c .last-rounds .ensures
-    ∙ ran-keyed core512 k512 64 0 16 _ _ (c .before .constants2 .ensures) (omega arith)
-    ∙ ran-held (keyed core512 k512) (λ t. rounds core512 t (a .h) (schedule core512 64 (a .m))) 80 (schedule core512 64 (a .m)) (rounds-follow core512 (a .h) (schedule core512 64 (a .m)))
+    ∙ ran-turn core512 k512 64 0 16 _ _ (c .before .constants2 .ensures) (omega arith)
+    ∙ ran-held (roundWith core512 k512) (λ t. rounds core512 t (a .h) (schedule core512 64 (a .m))) 80 (schedule core512 64 (a .m)) (rounds-follow core512 (a .h) (schedule core512 64 (a .m)))
     64 0 64 16 (l .x .w) refl (omega arith) (omega arith) (omega arith) (rw e at (l .inv .3)) (rw e at (l .inv .2))
 
 pub run-rounds-spec : {M : Type 1} → statement M

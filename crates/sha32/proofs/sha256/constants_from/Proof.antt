@@ -6,8 +6,8 @@ use native.Mathlib.Omega.{arith}
 use lib.ListN.{length, getD}
 use Rattle.sha.proofs.Elements.{part-of}
 use borrow.Author.Needs.{needs}
-use Rattle.sha32.proofs.sha256.sixteen.Statement.{statement}
-use Rattle.sha32.proofs.sha256.sixteen.Tie as tie
+use Rattle.sha32.proofs.sha256.constants_from.Statement.{statement}
+use Rattle.sha32.proofs.sha256.constants_from.Tie as tie
 
 mul-t4 : tie.Need-mul-t4
 mul-t4 c = search needs
@@ -156,8 +156,8 @@ returns c =
     part-of (c .args .t1) (c .args .t) _ (omega arith)
     (ap (λ (i : ℕ). getD (c .args .t1) i 0) (sym (add-zero (c .args .t))), (refl, (refl, (refl, (refl, (refl, (refl, (refl, (refl, (refl, (refl, (refl, (refl, (refl, (refl, (refl, tt))))))))))))))))
 
-pub sixteen-spec : {M : Type 1} → statement M
-sixteen-spec =
+pub constants-from-spec : {M : Type 1} → statement M
+constants-from-spec =
     tie.close
     (tie.spec
     mul-t4

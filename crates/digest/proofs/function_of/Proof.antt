@@ -2,8 +2,8 @@
 use native.Mathlib.Omega.{arith}
 use Rattle.sha32.specs.Hash32.{hash32}
 use Rattle.digest.proofs.ByKind.{cut-sha1, cut-sha256}
-use Rattle.digest.proofs.narrow.Statement.{statement}
-use Rattle.digest.proofs.narrow.Tie as tie
+use Rattle.digest.proofs.function_of.Statement.{statement}
+use Rattle.digest.proofs.function_of.Tie as tie
 
 returns : tie.Need-returns
 unfolding hash32
@@ -13,5 +13,5 @@ returns-2 : tie.Need-returns-2
 unfolding hash32
 returns-2 c = cut-sha256 _ (omega arith) (omega arith) (c .before .pre .1)
 
-pub narrow-spec : {M : Type 1} → statement M
-narrow-spec = tie.close (tie.spec returns returns-2)
+pub function-of-spec : {M : Type 1} → statement M
+function-of-spec = tie.close (tie.spec returns returns-2)
