@@ -39,8 +39,8 @@ unfolding rounds
 rounds-follow q h ws t = refl
 
 -- the constants of a turn are those of the table ks from its first round t on
-pub turn-constants : (ks : List ℕ) (t turn : ℕ) {k r : List ℕ} → r ≡ take 16 (drop t k) → t ≡ 16 * turn → k ≡ ks → r ≡ take 16 (drop (16 * turn) ks)
-turn-constants ks t turn er et ek = er ∙ rw (ek, et)
+pub turn-constants : (ks : List ℕ) (t turn : ℕ) {k r : List ℕ} → k ≡ ks → t ≡ 16 * turn → r ≡ take 16 (drop t k) → r ≡ take 16 (drop (16 * turn) ks)
+turn-constants ks t turn ek et er = er ∙ rw (ek, et)
 
 -- the rounds of a turn from t on, with the sixteen constants of the turn, are those with the table
 ran-turn : (q : Core) (ks : List ℕ) (t i n : ℕ) (s w : List ℕ) {k : List ℕ} → k ≡ take 16 (drop t ks) → i + n ≤ 16

@@ -21,19 +21,19 @@ constants-from-requires-4 c κs = search needs
 
 returns : tie.Need-returns
 unfolding k256
-returns c = turn-constants k256 0 (c .before .before .args .turn) (c .constants-from .ensures) (omega arith) refl
+returns c = turn-constants k256 0 (c .before .before .args .turn) refl (omega arith) (c .constants-from .ensures)
 
 returns-2 : tie.Need-returns-2
 unfolding k256
-returns-2 c = turn-constants k256 16 (c .before .before .args .turn) (c .constants-from2 .ensures) (omega arith) refl
+returns-2 c = turn-constants k256 16 (c .before .before .args .turn) refl (omega arith) (c .constants-from2 .ensures)
 
 returns-3 : tie.Need-returns-3
 unfolding k256
-returns-3 c = turn-constants k256 32 (c .before .before .args .turn) (c .constants-from3 .ensures) (omega arith) refl
+returns-3 c = turn-constants k256 32 (c .before .before .args .turn) refl (omega arith) (c .constants-from3 .ensures)
 
 returns-4 : tie.Need-returns-4
 unfolding k256
-returns-4 c = turn-constants k256 48 (c .before .before .args .turn) (c .constants-from4 .ensures) (omega arith) refl
+returns-4 c = turn-constants k256 48 (c .before .before .args .turn) refl (omega arith) (c .constants-from4 .ensures)
 
 pub constants-spec : {M : Type 1} → statement M
 constants-spec =

@@ -24,23 +24,23 @@ constants-from-requires-5 c κs = search needs
 
 returns : tie.Need-returns
 unfolding k512
-returns c = turn-constants k512 0 (c .before .before .args .turn) (c .constants-from .ensures) (omega arith) refl
+returns c = turn-constants k512 0 (c .before .before .args .turn) refl (omega arith) (c .constants-from .ensures)
 
 returns-2 : tie.Need-returns-2
 unfolding k512
-returns-2 c = turn-constants k512 16 (c .before .before .args .turn) (c .constants-from2 .ensures) (omega arith) refl
+returns-2 c = turn-constants k512 16 (c .before .before .args .turn) refl (omega arith) (c .constants-from2 .ensures)
 
 returns-3 : tie.Need-returns-3
 unfolding k512
-returns-3 c = turn-constants k512 32 (c .before .before .args .turn) (c .constants-from3 .ensures) (omega arith) refl
+returns-3 c = turn-constants k512 32 (c .before .before .args .turn) refl (omega arith) (c .constants-from3 .ensures)
 
 returns-4 : tie.Need-returns-4
 unfolding k512
-returns-4 c = turn-constants k512 48 (c .before .before .args .turn) (c .constants-from4 .ensures) (omega arith) refl
+returns-4 c = turn-constants k512 48 (c .before .before .args .turn) refl (omega arith) (c .constants-from4 .ensures)
 
 returns-5 : tie.Need-returns-5
 unfolding k512
-returns-5 c = turn-constants k512 64 (c .before .before .args .turn) (c .constants-from5 .ensures) (omega arith) refl
+returns-5 c = turn-constants k512 64 (c .before .before .args .turn) refl (omega arith) (c .constants-from5 .ensures)
 
 pub constants-spec : {M : Type 1} → statement M
 constants-spec =
