@@ -205,8 +205,8 @@ fn step(x: State, k: [u32; 16], i: usize) -> State
     let s = x.s;
     let w = x.w;
     State {
-        s: round_at(s, w, k, i),
         w: renew_word(w, i),
+        s: round_at(s, w, k, i),
     }
 }
 

@@ -130,7 +130,7 @@ fn round_step(s: [u64; 8], k: u64, w: u64) -> [u64; 8]
 fn next_word(w2: u64, w7: u64, w15: u64, w16: u64) -> u64
     ensures { λ r. ⌜ r ≡ mix core512 w2 w7 w15 w16 ⌝ }
 {
-    add(add(add(small_sigma1(w2), w7), small_sigma0(w15)), w16)
+    add(add(add(w16, w7), small_sigma0(w15)), small_sigma1(w2))
 }
 
 // The sixteen words kept, with the word sixteen after the one at place i in its place.
@@ -222,8 +222,8 @@ fn step(x: State, k: [u64; 16], i: usize) -> State
     let s = x.s;
     let w = x.w;
     State {
-        s: round_at(s, w, k, i),
         w: renew_word(w, i),
+        s: round_at(s, w, k, i),
     }
 }
 

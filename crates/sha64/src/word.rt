@@ -27,7 +27,7 @@ pub fn big_sigma0(x: u64) -> u64
 pub fn big_sigma1(x: u64) -> u64
     ensures { λ r. ⌜ r ≡ bigSigma 64 14 18 41 x ⌝ }
 {
-    rotate(rotate(rotate(x, 23) ^ x, 4) ^ x, 14)
+    rotate(x, 14) ^ rotate(x, 18) ^ rotate(x, 41)
 }
 
 pub fn small_sigma0(x: u64) -> u64
