@@ -9,4 +9,5 @@ pub mod LastSixteen
 pub mod Elements
 pub mod Short
 pub mod Rotations
+pub mod Shifts
 pub mod Examples

@@ -12,7 +12,7 @@ use Rattle.sha.proofs.Short.{by-digits, digits, xor-half, xor-low}
 xor-digit : (p q r : ℕ) → p < 2 → q < 2 → r < 2 → differ (differ p q) r ≡ differ p (differ q r)
 xor-digit = digits (λ (p q r : ℕ). differ (differ p q) r ≡ differ p (differ q r)) refl refl refl refl refl refl refl refl
 
-xor-assoc : (x y z : ℕ) → bitXor (bitXor x y) z ≡ bitXor x (bitXor y z)
+pub xor-assoc : (x y z : ℕ) → bitXor (bitXor x y) z ≡ bitXor x (bitXor y z)
 xor-assoc =
     bin-ind (λ (x : ℕ). (y z : ℕ) → bitXor (bitXor x y) z ≡ bitXor x (bitXor y z)) (λ y z. rw (xor-zero-l y, xor-zero-l (bitXor y z))) λ x f y z.
     by-digits (bitXor (bitXor x y) z) (bitXor x (bitXor y z))
@@ -25,7 +25,7 @@ unfolding rotr
 rotr-below w n x h = or-lt w (x / 2 ^ n) (x * 2 ^ (w - n) % 2 ^ w) (lt-of-le-of-lt (shr-le x n) h) (mod-lt (x * 2 ^ (w - n)) (pow-pos w))
 
 -- a rotation puts the n low digits before the m high ones
-rotr-sum : (w m n x : ℕ) → w ≡ m + n → x < 2 ^ w → rotr w n x ≡ x % 2 ^ n * 2 ^ m + x / 2 ^ n
+pub rotr-sum : (w m n x : ℕ) → w ≡ m + n → x < 2 ^ w → rotr w n x ≡ x % 2 ^ n * 2 ^ m + x / 2 ^ n
 unfolding rotr
 rotr-sum w m n x e h =
     let d : w - n ≡ m = omega arith in

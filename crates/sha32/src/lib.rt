@@ -7,6 +7,11 @@ mod sha1;
 mod sha256;
 mod word;
 
+pub use load::word_at;
+pub use sha256::K256;
+pub use word::add;
+pub use word::choose;
+pub use word::majority;
 ghost use mathlib.Core.Path.{_≡_};
 ghost use mathlib.Core.List.{_++_};
 ghost use Prim.Native.Nat.{_+_, _/_, _%_, _≤_};

@@ -20,7 +20,7 @@ fn swap(x: u32) -> u32
 
 // The big-endian word at byte j. Swapped from the little-endian one it is two instructions, few enough for `load_block` to be compiled
 // into each of the two block steps.
-fn word_at(b: &[u8], j: usize) -> u32
+pub fn word_at(b: &[u8], j: usize) -> u32
     requires { ⌜ j + 4 ≤ length (now b) ⌝ }
     ensures { λ r. ⌜ r ≡ big 4 (now (b .entry)) j ⌝ }
 {

@@ -20,7 +20,7 @@ ghost use Rattle.sha.specs.Sha2.{t1, t2, round, rounds, mix, mixed, schedule, c
 ghost use Rattle.sha.specs.Window.{renewed, rolled, ran, roundWith};
 
 // The round constants, section 4.2.2.
-const K256: [u32; 64] = [
+pub const K256: [u32; 64] = [
     0x428a2f98,
     0x71374491,
     0xb5c0fbcf,
