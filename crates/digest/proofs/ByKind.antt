@@ -87,6 +87,15 @@ cut-sha256 k h h₁ h₄ = (
   narrow-width k h₄,
 )
 
+-- the two between SHA-1 and SHA-384
+pub middle-sha256 : (k : ℕ) → sha256Type ≤ k → k ≤ truncatedType → (hashOf k ≡ cutTo (widthOf k) sha256) × (widthOf k ≤ 32)
+middle-sha256 k l u = cut-sha256 k wide (omega arith) (omega arith)
+  where
+    wide : 0 < widthOf k
+    wide =
+        rw (← width-is k)
+        (by-number (λ f. 0 < f .width) k (λ e. omega arith) (λ e. omega arith) (λ e. omega arith) (λ e. omega arith) (λ a b c d. absurd (omega arith)))
+
 -- EACH KIND
 
 not-known : (k : ℕ) → widthOf k ≡ 0 → (m : List ℕ) → digestOf k m ≡ []
