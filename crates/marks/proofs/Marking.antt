@@ -1,21 +1,22 @@
 -- Laws of marks: what a mark says, the marks of an image, and what the routine that writes them is lent and leaves.
-use Prim.Native.Nat.{ℕ, _+_, _-_, _*_, _≤_, _<_}
+use Prim.Native.Nat.{ℕ, _+_, _-_, _*_, _≤_, _<_, min}
 use mathlib.Core.Path.{_≡_, refl, sym, ap, _∙_}
 use mathlib.Core.Logic.{_⊎_, inl, inr, _↔_}
 use mathlib.Core.Bool.{Bool, true, false, cond}
 use mathlib.Core.List.{List, _++_, append-assoc}
 use native.Mathlib.Nat.{zero-add, mul-zero, sub-zero, mul-le-mul-left, min-le-left, min-le-right, le-min, le-trans}
 use native.Mathlib.Omega.{arith}
-use lib.ListN.{length, getD, take, drop, length-drop, length-append}
+use lib.ListN.{length, getD, take, drop, replicate, length-drop, length-append}
 use lib.Seq.{drop-drop, length-take-le}
 use Rattle.refusals.specs.declared.Answer.{Answer}
 use Rattle.refusals.specs.Refusals.{holds, lowest, refuse, first, Passes}
 use Rattle.refusals.proofs.Positions.{none-fails}
 use Rattle.digest.specs.Kinds.{digestOf}
 use Rattle.digest.specs.Same.{same}
+use Rattle.digest.proofs.Digests.{digest-first}
 use Rattle.digest.proofs.Equality.{same-equal, equal-same}
 use Rattle.layout.proofs.Widths.{slot-end}
-use Rattle.geometry.specs.Pages.{pageCount, pageEnd, part, pageOf, metFirst, metEnd}
+use Rattle.geometry.specs.Pages.{pageCount, pageStart, pageEnd, part, pageOf, metFirst, metEnd}
 use Rattle.marks.specs.Marks.{Slots, width, slotAt, agrees, AgreesExactly, markOf, marksOf, markIn, marksFrom, remarked, neither, differs, markRows, badRows, judged, PageHere, PagesHere, RangeHere}
 use Rattle.geometry.proofs.Pages.{met-le, met-count}
 use Rattle.geometry.proofs.Parts.{part-below}
@@ -45,17 +46,25 @@ module _ (slots : Slots) (n at w : ℕ) (place : at ≡ width slots * n) (wide :
       let e : at + w - at ≡ width slots = omega arith in
       rw (e, place)
 
-  cut-agrees : (bytes : List ℕ) (a e f : ℕ) (b : Bool)
-      → b ≡ same (digestOf (slots .kind) (part bytes a e)) (part (slots .bytes) at (at + w)) → e ≡ f → b ≡ agrees slots n (part bytes a f)
+  cut-agrees : (d : List ℕ) (b : Bool) → b ≡ same (take (width slots) d) (part (slots .bytes) at (at + w))
+      → (m : List ℕ) → d ≡ digestOf (slots .kind) m ++ replicate (48 - width slots) 0 → b ≡ agrees slots n m
   unfolding agrees
-  cut-agrees bytes a e f b h q =
-      h ∙ ap (same (digestOf (slots .kind) (part bytes a e))) slot-cut
-      ∙ ap (λ (x : ℕ). same (digestOf (slots .kind) (part bytes a x)) (slotAt slots n)) q
+  cut-agrees d b h m e =
+      h ∙ ap (λ (l : List ℕ). same l (part (slots .bytes) at (at + w))) (digest-first (slots .kind) m d e)
+      ∙ ap (same (digestOf (slots .kind) m)) slot-cut
 
-  pub cut-mark : (bytes : List ℕ) (a e f v : ℕ) (b : Bool)
-      → b ≡ same (digestOf (slots .kind) (part bytes a e)) (part (slots .bytes) at (at + w)) → e ≡ f
-      → v ≡ cond {A = ℕ} b 0 1 → v ≡ markOf slots n (part bytes a f)
-  cut-mark bytes a e f v b h q t = t ∙ mark-of slots n (part bytes a f) b (cut-agrees bytes a e f b h q)
+  pub cut-mark : (d : List ℕ) (v : ℕ) (b : Bool) → b ≡ same (take (width slots) d) (part (slots .bytes) at (at + w)) → v ≡ cond {A = ℕ} b 0 1
+      → (m : List ℕ) → d ≡ digestOf (slots .kind) m ++ replicate (48 - width slots) 0 → v ≡ markOf slots n m
+  cut-mark d v b h t m e = t ∙ mark-of slots n m b (cut-agrees d b h m e)
+
+-- of page n, by the digest d of its bytes m and the slot of page k
+pub page-mark : (p limit : ℕ) (slots : Slots) (from : ℕ) (bytes : List ℕ) (k n : ℕ) (d m : List ℕ) (v : ℕ)
+    → ((m : List ℕ) → d ≡ digestOf (slots .kind) m ++ replicate (48 - width slots) 0 → v ≡ markOf slots k m)
+    → d ≡ digestOf (slots .kind) m ++ replicate (48 - width slots) 0
+    → m ≡ part bytes (pageStart p n - pageStart p from) (pageEnd p limit n - pageStart p from) → k ≡ n → v ≡ markIn p limit slots from bytes n
+page-mark p limit slots from bytes k n d m v h e q w =
+    h m e ∙ ap (markOf slots k) q
+    ∙ ap (λ (x : ℕ). markOf slots x (part bytes (pageStart p n - pageStart p from) (pageEnd p limit n - pageStart p from))) w
 
 -- the mark is 0 exactly when the slot holds the digest
 pub mark-exact : (slots : Slots) (i : ℕ) (bytes : List ℕ) → (markOf slots i bytes ≡ 0) ↔ (digestOf (slots .kind) bytes ≡ slotAt slots i)
@@ -140,15 +149,35 @@ judged-number marks place = by-test (holds _)
 
 -- WHAT THE ROUTINE IS LENT
 
+-- slot k of those that reach up to slot n, over their width w
+pub slot-before : (w k n most : ℕ) → w * n + w ≤ most → k ≤ n → w * k + w ≤ most
+slot-before w k n most h l = omega (arith, mul-le-mul-left {m = k} {n = n} w l)
+
+-- where a page ends, of the first n
+ends-below : (p limit k n : ℕ) → k < n → pageEnd p limit k ≤ min (p * n) limit
+ends-below p limit k n h =
+    le-min {k = pageEnd p limit k} (le-trans (min-le-left (p * (k + 1)) limit) (mul-le-mul-left {n = n} p (omega arith))) (min-le-right (p * (k + 1)) limit)
+
 -- each of the pages is there
-pub page-of : (p limit : ℕ) (slots : Slots) (first n : ℕ) (bytes : List ℕ) (i : ℕ) → PagesHere p limit slots first n bytes → i < n
-    → PageHere p limit slots first (first + i) bytes
-page-of p limit slots first n bytes i h u =
+pub page-of : (p limit : ℕ) (slots : Slots) (first n : ℕ) (bytes : List ℕ) (k : ℕ) → PagesHere p limit slots first n bytes → first ≤ k → k < first + n
+    → PageHere p limit slots first k bytes
+page-of p limit slots first n bytes k h o u =
     record {
-      after = omega arith;
+      after = o;
       here = omega arith;
-      slot = omega (arith, slot-end (width slots) (first + i) (first + n) (omega arith), h .slotted);
-      held = omega (arith, le-min {k = pageEnd p limit (first + i)} (le-trans (min-le-left (p * (first + i + 1)) limit) (mul-le-mul-left {n = first + n} p (omega arith))) (min-le-right (p * (first + i + 1)) limit));
+      slot = omega (arith, slot-end (width slots) k (first + n) u, h .slotted);
+      held = omega (arith, ends-below p limit k (first + n) u);
+    }
+
+-- where page n is there, so are those before it
+pub page-before : (p limit : ℕ) (slots : Slots) (first n : ℕ) (bytes : List ℕ) (k : ℕ) → PageHere p limit slots first n bytes → first ≤ k → k ≤ n
+    → PageHere p limit slots first k bytes
+page-before p limit slots first n bytes k h o u =
+    record {
+      after = o;
+      here = omega (arith, h .here);
+      slot = slot-before (width slots) k n _ (h .slot) u;
+      held = omega (arith, ends-below p limit k (n + 1) (omega arith), h .held);
     }
 
 -- all pages, in an image that reaches the limit

@@ -1,7 +1,7 @@
 -- Laws of `tab`: numbers in a row.
 use Prim.Native.Nat.{ℕ, zero, suc, _+_, _-_, _≤_, _<_}
 use mathlib.Core.Path.{_≡_, refl, ap, subst, _∙_}
-use mathlib.Core.List.{List, _∷_, _++_, append-assoc, append-nil}
+use mathlib.Core.List.{List, [], _∷_, _++_, append-assoc, append-nil}
 use native.Mathlib.Nat.{add-zero, zero-add, suc-add, not-suc-le-zero, le-of-suc-le-suc, add-sub-of-le}
 use native.Mathlib.Numerals.{add-one}
 use native.Mathlib.Omega.{arith}
@@ -82,5 +82,34 @@ tab-more first i f l v h e =
     let a : drop i l ≡ getD l i 0 ∷ drop (i + 1) l = rw (add-one) (drop-cons l i 0 h) in
     rw (a, set-at (tab first i f) (getD l i 0) (drop (i + 1) l) v i (tab-length first i f), tab-join first i 1 f, e, append-assoc) (tab-one (first + i) f (tab first i f) (drop (i + 1) l))
 
-pub tab-all : (first i : ℕ) (f : ℕ → ℕ) (l : List ℕ) → i ≡ length l → tab first i f ++ drop i l ≡ tab first (length l) f
-tab-all first i f l e = rw (e, drop-length, append-nil)
+-- four stores a turn
+module _ (first i : ℕ) (f : ℕ → ℕ) (l : List ℕ) where
+  next : (j k v : ℕ) → k ≡ j + 1 → j < length l → v ≡ f (first + j) → set (tab first j f ++ drop j l) j v ≡ tab first k f ++ drop k l
+  next j k v e h q = rw e (tab-more first j f l v h q)
+
+  pub tab-more-four : (a b c d : ℕ) → i + 3 < length l → a ≡ f (first + i) → b ≡ f (first + (i + 1)) → c ≡ f (first + (i + 2)) → d ≡ f (first + (i + 3))
+      → set (set (set (set (tab first i f ++ drop i l) i a) (i + 1) b) (i + 2) c) (i + 3) d ≡ tab first (i + 4) f ++ drop (i + 4) l
+  tab-more-four a b c d h ea eb ec ed =
+      rw (next i (i + 1) a (omega arith) (omega arith) ea, next (i + 1) (i + 2) b (omega arith) (omega arith) eb, next (i + 2) (i + 3) c (omega arith) (omega arith) ec)
+      (next (i + 3) (i + 4) d (omega arith) (omega arith) ed)
+
+-- four numbers in a row
+pub tab-four : (n : ℕ) (f : ℕ → ℕ) {a b c d : ℕ} → a ≡ f n → b ≡ f (n + 1) → c ≡ f (n + 2) → d ≡ f (n + 3) → a ∷ b ∷ c ∷ d ∷ [] ≡ tab n 4 f
+unfolding tab
+tab-four n f ea eb ec ed =
+    let x : n + 1 ≡ suc n = omega arith in
+    let y : n + 2 ≡ suc (suc n) = omega arith in
+    let z : n + 3 ≡ suc (suc (suc n)) = omega arith in
+    rw (ea, eb, ec, ed, x, y, z) refl
+
+pub four-at : (first i : ℕ) (f : ℕ → ℕ) (four : List ℕ) (k j : ℕ) → k < 4 → j ≡ i + k → four ≡ tab (first + i) 4 f → getD four k 0 ≡ f (first + j)
+four-at first i f four k j h u e = rw e (tab-at (first + i) 4 f k 0 h ∙ ap f (omega arith))
+
+-- what was filled so far is kept by who goes on
+pub tab-kept : (first i : ℕ) (f : ℕ → ℕ) (l m : List ℕ) → l ≡ tab first i f ++ drop i m → l ≡ tab first i f ++ drop i l
+tab-kept first i f l m e =
+    let k : drop i l ≡ drop i m = rw e (drop-at (tab first i f) (drop i m) i (tab-length first i f)) in
+    rw k e
+
+pub tab-all : (first i : ℕ) (f : ℕ → ℕ) (l : List ℕ) (n : ℕ) → i ≡ length l → length l ≡ n → tab first i f ++ drop i l ≡ tab first n f
+tab-all first i f l n e q = rw (e, drop-length, append-nil, q)

@@ -6,9 +6,39 @@ use geometry::page_end;
 use layout::directory::CodeDirectory;
 use refusals::Answer;
 ghost use mathlib.Core.Path.{_≡_};
-ghost use lib.ListN.{length};
+ghost use mathlib.Core.List.{List, _++_};
+ghost use Prim.Native.Nat.{ℕ, _+_, _-_, _*_, _≤_};
+ghost use lib.ListN.{length, drop, replicate};
+ghost use Rattle.layout.specs.CodeDirectory.{widthOf};
+ghost use Rattle.geometry.specs.Pages.{pageCount, pageStart, pageEnd, part};
+ghost use Rattle.digest.specs.Kinds.{digestOf};
 ghost use Rattle.refusals.specs.Refusals.{lowest, first, accepted};
-ghost use Rattle.marks.specs.Marks.{slotsOfKind, markIn, marksFrom, neither, differs, markRows, judged, PageHere, PagesHere};
+ghost use Rattle.marks.specs.Marks.{slotsOfKind, markOf, tab, markIn, marksFrom, neither, differs, markRows, judged, PageHere, PagesHere};
+
+// The bytes of page n, of bytes that begin where page `from` begins.
+fn page_bytes<'a>(p: usize, limit: usize, from: usize, n: usize, bytes: &'a [u8]) -> &'a [u8]
+    requires { ⌜ (from ≤ n) × (n + 1 ≤ pageCount p limit) × (pageEnd p limit n - pageStart p from ≤ length (now bytes)) ⌝ }
+    ensures { λ r. ⌜ now r ≡ part (now (bytes .entry)) (pageStart p n - pageStart p from) (pageEnd p limit n - pageStart p from) ⌝ }
+{
+    let base = p * from;
+    let start = p * n - base;
+    let end = page_end(p, limit, n) - base;
+    &bytes[start..end]
+}
+
+// The mark of page n by its digest d.
+fn mark_of(kind: usize, slots: &[u8], n: usize, d: [u8; 48]) -> u8
+    requires { ⌜ widthOf kind * n + widthOf kind ≤ length (now slots) ⌝ }
+    ensures { λ r. ⌜ ((m : List ℕ) → d ≡ digestOf kind m ++ replicate (48 - widthOf kind) 0 → r ≡ markOf (slotsOfKind kind (now (slots .entry))) n m) ⌝ }
+{
+    let slot = CodeDirectory::slot_bytes(kind, n);
+    let next = slot + CodeDirectory::slot_width(kind);
+    if digest::slot_holds(kind, &slots[slot..next], d) {
+        0
+    } else {
+        1
+    }
+}
 
 // The mark of page n, of bytes that begin where page `from` begins. The page is hashed where it lies.
 fn mark_page(
@@ -23,16 +53,66 @@ fn mark_page(
     requires { ⌜ PageHere p limit (slotsOfKind kind (now slots)) from n (now bytes) ⌝ }
     ensures { λ r. ⌜ r ≡ markIn p limit (slotsOfKind kind (now (slots .entry))) from (now (bytes .entry)) n ⌝ }
 {
-    let base = p * from;
-    let start = p * n - base;
-    let end = page_end(p, limit, n) - base;
-    let slot = CodeDirectory::slot_bytes(kind, n);
-    let next = slot + CodeDirectory::slot_width(kind);
-    if digest::agrees(kind, &bytes[start..end], &slots[slot..next]) {
-        0
-    } else {
-        1
+    let page = page_bytes(p, limit, from, n, bytes);
+    mark_of(kind, slots, n, digest::digest(kind, page))
+}
+
+// The marks of page n and the three behind it, hashed side by side where that is possible.
+fn mark_four(
+    p: usize,
+    limit: usize,
+    kind: usize,
+    slots: &[u8],
+    from: usize,
+    n: usize,
+    bytes: &[u8],
+) -> [u8; 4]
+    requires { ⌜ (from ≤ n) × PageHere p limit (slotsOfKind kind (now slots)) from (n + 3) (now bytes) ⌝ }
+    ensures { λ r. ⌜ r ≡ tab n 4 (markIn p limit (slotsOfKind kind (now (slots .entry))) from (now (bytes .entry))) ⌝ }
+{
+    let n1 = n + 1;
+    let n2 = n + 2;
+    let n3 = n + 3;
+    let a = page_bytes(p, limit, from, n, bytes);
+    let b = page_bytes(p, limit, from, n1, bytes);
+    let c = page_bytes(p, limit, from, n2, bytes);
+    let d = page_bytes(p, limit, from, n3, bytes);
+    let x = digest::digest_four(kind, a, b, c, d);
+    let xa = x.a;
+    let xb = x.b;
+    let xc = x.c;
+    let xd = x.d;
+    [
+        mark_of(kind, slots, n, xa),
+        mark_of(kind, slots, n1, xb),
+        mark_of(kind, slots, n2, xc),
+        mark_of(kind, slots, n3, xd),
+    ]
+}
+
+// Writes the marks of the pages from `from` on by fours, as far as fours go, and gives their number.
+fn mark_fours(
+    p: usize,
+    limit: usize,
+    kind: usize,
+    slots: &[u8],
+    from: usize,
+    bytes: &[u8],
+    marks: &mut [u8],
+) -> usize
+    requires { ⌜ PagesHere p limit (slotsOfKind kind (now slots)) from (length (now marks)) (now bytes) ⌝ }
+    ensures { λ r. ⌜ (now (marks .exit) ≡ tab from r (markIn p limit (slotsOfKind kind (now (slots .entry))) from (now (bytes .entry))) ++ drop r (now (marks .entry))) × (r ≤ length (now (marks .entry))) ⌝ }
+{
+    let mut i = 0;
+    while 4 <= marks.len() - i {
+        let four = mark_four(p, limit, kind, slots, from, from + i, bytes);
+        marks[i] = four[0];
+        marks[i + 1] = four[1];
+        marks[i + 2] = four[2];
+        marks[i + 3] = four[3];
+        i += 4;
     }
+    i
 }
 
 // Hashes the pages from `from` on by the slots' kind, one for each mark, and writes their marks. The bytes begin where page `from` begins: the image
@@ -49,7 +129,7 @@ pub fn mark_pages(
     requires { ⌜ PagesHere p limit (slotsOfKind kind (now slots)) from (length (now marks)) (now bytes) ⌝ }
     ensures { λ r. ⌜ now (marks .exit) ≡ marksFrom p limit (slotsOfKind kind (now (slots .entry))) from (length (now (marks .entry))) (now (bytes .entry)) ⌝ }
 {
-    let mut i = 0;
+    let mut i = mark_fours(p, limit, kind, slots, from, bytes, marks);
     while i < marks.len() {
         let m = mark_page(p, limit, kind, slots, from, from + i, bytes);
         marks[i] = m;
