@@ -87,10 +87,11 @@ module _ (first i : ℕ) (f : ℕ → ℕ) (l : List ℕ) where
   next : (j k v : ℕ) → k ≡ j + 1 → j < length l → v ≡ f (first + j) → set (tab first j f ++ drop j l) j v ≡ tab first k f ++ drop k l
   next j k v e h q = rw e (tab-more first j f l v h q)
 
-  pub tab-more-four : (a b c d : ℕ) → i + 3 < length l → a ≡ f (first + i) → b ≡ f (first + (i + 1)) → c ≡ f (first + (i + 2)) → d ≡ f (first + (i + 3))
-      → set (set (set (set (tab first i f ++ drop i l) i a) (i + 1) b) (i + 2) c) (i + 3) d ≡ tab first (i + 4) f ++ drop (i + 4) l
-  tab-more-four a b c d h ea eb ec ed =
-      rw (next i (i + 1) a (omega arith) (omega arith) ea, next (i + 1) (i + 2) b (omega arith) (omega arith) eb, next (i + 2) (i + 3) c (omega arith) (omega arith) ec)
+  pub tab-more-four : (m : List ℕ) → m ≡ tab first i f ++ drop i l → i + 3 < length l → {a b c d : ℕ}
+      → a ≡ f (first + i) → b ≡ f (first + (i + 1)) → c ≡ f (first + (i + 2)) → d ≡ f (first + (i + 3))
+      → set (set (set (set m i a) (i + 1) b) (i + 2) c) (i + 3) d ≡ tab first (i + 4) f ++ drop (i + 4) l
+  tab-more-four m e h {a} {b} {c} {d} ea eb ec ed =
+      rw (e, next i (i + 1) a (omega arith) (omega arith) ea, next (i + 1) (i + 2) b (omega arith) (omega arith) eb, next (i + 2) (i + 3) c (omega arith) (omega arith) ec)
       (next (i + 3) (i + 4) d (omega arith) (omega arith) ed)
 
 -- four numbers in a row

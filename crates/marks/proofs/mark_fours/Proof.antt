@@ -1,10 +1,10 @@
 -- The first i marks are those of the pages from `from` on, and the others are as they were; each turn writes four (`tab-more-four`).
-use Prim.Native.Nat.{ℕ, _+_, _-_, _≤_}
-use mathlib.Core.Path.{_≡_, refl, ap, _∙_}
-use mathlib.Core.List.{List, _++_}
+use Prim.Native.Nat.{_+_, _-_, _≤_}
+use mathlib.Core.Path.{_≡_, refl}
+use mathlib.Core.List.{_++_}
 use native.Mathlib.Omega.{arith}
 use denote.Ref.{now}
-use lib.ListN.{length, getD, drop, set, length-set}
+use lib.ListN.{length, drop, length-set}
 use Rattle.geometry.proofs.Pages.{count-most}
 use Rattle.marks.specs.Marks.{slotsOfKind, markIn, tab}
 use Rattle.marks.proofs.Tabs.{tab-none, tab-more-four, four-at}
@@ -84,9 +84,11 @@ loop-again c =
     let e = c .mark-four .ensures in (
       omega arith,
       simp length-set (l .inv .1),
-      ap (λ (m : List ℕ). set (set (set (set m (l .i) (getD four 0 0)) (l .i + 1) (getD four 1 0)) (l .i + 2) (getD four 2 0)) (l .i + 3) (getD four 3 0)) (l .inv .2)
-          ∙ tab-more-four (a .from) (l .i) f (now (a .marks)) _ _ _ _ (omega arith)
-          (four-at (a .from) (l .i) f four 0 _ (omega arith) (omega arith) e) (four-at (a .from) (l .i) f four 1 _ (omega arith) (omega arith) e) (four-at (a .from) (l .i) f four 2 _ (omega arith) (omega arith) e) (four-at (a .from) (l .i) f four 3 _ (omega arith) (omega arith) e),
+      tab-more-four (a .from) (l .i) f (now (a .marks)) (l .marks) (l .inv .2) (omega arith)
+          (four-at (a .from) (l .i) f four 0 _ (omega arith) (omega arith) e)
+          (four-at (a .from) (l .i) f four 1 _ (omega arith) (omega arith) e)
+          (four-at (a .from) (l .i) f four 2 _ (omega arith) (omega arith) e)
+          (four-at (a .from) (l .i) f four 3 _ (omega arith) (omega arith) e),
     )
 
 same-length : tie.Need-same-length Inv-loop μ-loop
