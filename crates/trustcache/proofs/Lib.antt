@@ -1,5 +1,6 @@
 -- Laws, by subject.
 pub mod Order
+pub mod Numbers
 pub mod Form
 pub mod Lookup
 pub mod Constraints

@@ -59,13 +59,13 @@ order-same : (x y : List ℕ) → Same x y → equal ≡ order x y
 unfolding order firstDiffering
 order-same x y s = pick-yes _ _ _ _ (none-fails (differsAt x y) cdhashLength (s .byte)) refl
 
-order-below : (x y : List ℕ) → Below x y → below ≡ order x y
+pub order-below : (x y : List ℕ) → Below x y → below ≡ order x y
 unfolding order
 order-below x y (k, f) =
     let e = first-at x y k (f .inside) (f .same) (λ q. omega (arith, f .less)) in
     pick-no _ _ _ _ (omega (arith, f .inside)) (pick-yes _ _ _ _ (rw e (f .less)) refl)
 
-order-above : (x y : List ℕ) → Below y x → above ≡ order x y
+pub order-above : (x y : List ℕ) → Below y x → above ≡ order x y
 unfolding order
 order-above x y (k, f) =
     let e = first-at x y k (f .inside) (λ m l. sym (f .same m l)) (λ q. omega (arith, f .less)) in
@@ -137,11 +137,29 @@ order-plainly =
       is-equal = λ x y n m. (equal-bytes x y n m, bytes-equal x y);
     }
 
--- A COMPARISON of two hashes that has found the first i bytes the same, and reads the next
+-- A COMPARISON of two hashes that has found the first i bytes the same
 
 pub compare-none : (x y : List ℕ) → SameTo 0 x y
 compare-none x y = record { byte = λ m l. absurd (omega arith) }
 
+pub same-back : (x y : List ℕ) (i : ℕ) → SameTo i x y → SameTo i y x
+same-back x y i s = record { byte = λ m l. sym (s .byte m l) }
+
+-- the next byte is the same too
+pub same-more : (x y : List ℕ) (i : ℕ) → SameTo i x y → getD x i 0 ≡ getD y i 0 → SameTo (i + 1) x y
+same-more x y i s h =
+    record {
+      byte =
+          λ m l.
+          ⊎-elim (λ e. subst (λ (k : ℕ). getD x k 0 ≡ getD y k 0) (sym e) h) (s .byte m)
+          (eq-or-lt-of-le (let u : m ≤ i = omega arith in u));
+    }
+
+-- the next byte is smaller
+pub less-at : (x y : List ℕ) (i : ℕ) → SameTo i x y → i < cdhashLength → getD x i 0 < getD y i 0 → Below x y
+less-at x y i s l h = (i, record { inside = l; same = s .byte; less = h })
+
+-- .. and reads the next byte of each
 module _ (x y : List ℕ) (i a b : ℕ) (s : SameTo i x y) (p : a ≡ getD x (0 + i) 0) (q : b ≡ getD y (0 + i) 0) where
   left : a ≡ getD x i 0
   left = p ∙ ap (λ (k : ℕ). getD x k 0) (zero-add i)
@@ -150,20 +168,13 @@ module _ (x y : List ℕ) (i a b : ℕ) (s : SameTo i x y) (p : a ≡ getD x (0 
   right = q ∙ ap (λ (k : ℕ). getD y k 0) (zero-add i)
 
   pub compare-below : i < cdhashLength → a < b → below ≡ order x y
-  compare-below l h = order-below x y (i, record { inside = l; same = s .byte; less = omega (arith, left, right) })
+  compare-below l h = order-below x y (less-at x y i s l (omega (arith, left, right)))
 
   pub compare-above : i < cdhashLength → b < a → above ≡ order x y
-  compare-above l h =
-      order-above x y (i, record { inside = l; same = λ m u. sym (s .byte m u); less = omega (arith, left, right) })
+  compare-above l h = order-above x y (less-at y x i (same-back x y i s) l (omega (arith, left, right)))
 
   pub compare-more : a ≡ b → SameTo (i + 1) x y
-  compare-more h =
-      record {
-        byte =
-            λ m l.
-            ⊎-elim (λ e. subst (λ (k : ℕ). getD x k 0 ≡ getD y k 0) (sym e) (sym left ∙ h ∙ right)) (s .byte m)
-            (eq-or-lt-of-le (let u : m ≤ i = omega arith in u));
-      }
+  compare-more h = same-more x y i s (sym left ∙ h ∙ right)
 
 pub compare-equal : (x y : List ℕ) (i : ℕ) → i ≡ cdhashLength → SameTo i x y → equal ≡ order x y
 compare-equal x y i n s = order-same x y (subst (λ (k : ℕ). SameTo k x y) n s)
@@ -174,14 +185,15 @@ pub first-is-above : (c : List ℕ) (i : ℕ) → i ≡ 0 → false ≡ holds (n
 unfolding notAbove
 first-is-above c i e = says false (notAbove c i) (λ z. absurd (omega arith))
 
-module _ (c x y : List ℕ) (i r : ℕ) (e : x ≡ hashAt c i) (f : y ≡ hashAt c (i - 1)) (o : r ≡ order x y) where
-  compared : r ≡ order (hashAt c i) (hashAt c (i - 1))
-  compared = o ∙ ap (λ (l : List ℕ). order l y) e ∙ ap (order (hashAt c i)) f
+-- what a comparison says of the hashes that it is lent it says of the entries
+pub compared : (c x y : List ℕ) (i j r : ℕ) → x ≡ hashAt c i → y ≡ hashAt c j → r ≡ order x y → r ≡ order (hashAt c i) (hashAt c j)
+compared c x y i j r e f o = o ∙ ap (λ (l : List ℕ). order l y) e ∙ ap (order (hashAt c i)) f
 
+module _ (c : List ℕ) (i r : ℕ) (o : r ≡ order (hashAt c i) (hashAt c (i - 1))) where
   pub is-above : r ≡ above → false ≡ holds (notAbove c i)
   unfolding notAbove
-  is-above q = says false (notAbove c i) (λ z. sym compared ∙ q)
+  is-above q = says false (notAbove c i) (λ z. sym o ∙ q)
 
   pub is-not-above : (i ≡ 0 → ⊥) → (r ≡ above → ⊥) → true ≡ holds (notAbove c i)
   unfolding notAbove
-  is-not-above n q = says true (notAbove c i) (omega arith, λ z. q (compared ∙ z))
+  is-not-above n q = says true (notAbove c i) (omega arith, λ z. q (o ∙ z))

@@ -4,12 +4,21 @@ use layout::cache::CacheHead;
 use layout::cache::hash_of;
 use refusals::Answer;
 ghost use mathlib.Core.Path.{_≡_};
+ghost use Prim.Native.Nat.{_+_, _-_, _*_, _<_, _≤_};
+ghost use lib.ListN.{length};
+ghost use Rattle.endian.specs.Numbers.{big};
+ghost use Rattle.layout.specs.TrustCache.{cacheHead, entrySize, cdhashLength, hashAt};
 ghost use Rattle.refusals.specs.Refusals.{holds, lowest, first, accepted};
 ghost use Rattle.trustcache.specs.Order.{order};
 ghost use Rattle.trustcache.specs.Rows.{notAbove, formRows};
 
 // The most entries that a cache may have.
 const MOST_ENTRIES: usize = 65536;
+
+// A hash as numbers: how many, and the bytes of each.
+const NUMBERS: usize = 5;
+
+const WIDTH: usize = 4;
 
 // How one hash stands to another.
 pub const BELOW: usize = 0;
@@ -37,6 +46,57 @@ pub fn compare(x: &[u8], y: &[u8]) -> usize
     EQUAL
 }
 
+fn wide(x: u8) -> u64
+    ensures { λ r. ⌜ (r ≡ x) × (r < 256) ⌝ }
+{
+    x as u64
+}
+
+// Four bytes from byte `at` on as a number, the first the most significant: one load, in bounds.
+fn number_at(c: &[u8], at: usize) -> u64
+    requires { ⌜ at + 4 ≤ length (now c) ⌝ }
+    ensures { λ r. ⌜ r ≡ big 4 (now (c .entry)) at ⌝ }
+{
+    wide(c[at + 0]) * 16777216 + wide(c[at + 1]) * 65536 + wide(c[at + 2]) * 256 + wide(c[at + 3])
+}
+
+// How the hash of entry i stands to the hash of entry j, both whole in the cache. It is `compare` by numbers, which are ordered as
+// their bytes are.
+fn compare_entries(c: &[u8], i: usize, j: usize) -> usize
+    requires { ⌜ cacheHead + entrySize * i + cdhashLength ≤ length (now c) ⌝ }
+    requires { ⌜ cacheHead + entrySize * j + cdhashLength ≤ length (now c) ⌝ }
+    ensures { λ r. ⌜ r ≡ order (hashAt (now (c .entry)) i) (hashAt (now (c .entry)) j) ⌝ }
+{
+    let x = CacheHead::HEAD + CacheEntry::SIZE * i;
+    let y = CacheHead::HEAD + CacheEntry::SIZE * j;
+    let mut k = 0;
+    while k < NUMBERS {
+        let a = number_at(c, x + WIDTH * k);
+        let b = number_at(c, y + WIDTH * k);
+        if a < b {
+            return BELOW;
+        }
+        if b < a {
+            return ABOVE;
+        }
+        k += 1;
+    }
+    EQUAL
+}
+
+// How the hash of entry i stands to that of the entry before it. In a cache that passed 24 both are whole.
+fn compare_to_previous(c: &[u8], i: usize) -> usize
+    requires { ⌜ 0 < i ⌝ }
+    ensures { λ r. ⌜ r ≡ order (hashAt (now (c .entry)) i) (hashAt (now (c .entry)) (i - 1)) ⌝ }
+{
+    if CacheHead::HEAD <= c.len() {
+        if i < (c.len() - CacheHead::HEAD) / CacheEntry::SIZE {
+            return compare_entries(c, i, i - 1);
+        }
+    }
+    compare(hash_of(c, i), hash_of(c, i - 1))
+}
+
 // Whether entry i is not above the one before it.
 fn not_above(c: &[u8], i: usize) -> bool
     ensures { λ r. ⌜ r ≡ holds (notAbove (now (c .entry)) i) ⌝ }
@@ -44,7 +104,7 @@ fn not_above(c: &[u8], i: usize) -> bool
     if i == 0 {
         return false;
     }
-    if compare(hash_of(c, i), hash_of(c, i - 1)) == ABOVE {
+    if compare_to_previous(c, i) == ABOVE {
         return false;
     }
     true
