@@ -12,10 +12,10 @@ compare-to-previous-requires : tie.Need-compare-to-previous-requires
 compare-to-previous-requires c κs = search needs
 
 returns-2 : tie.Need-returns-2
-returns-2 c = is-above _ _ _ (c .before .compare-to-previous .ensures) (c .if2 .taken)
+returns-2 c = is-above _ _ _ (c .before .compare-to-previous .ensures) (omega arith)
 
 returns-3 : tie.Need-returns-3
-returns-3 c = is-not-above _ _ _ (c .before .compare-to-previous .ensures) (omega arith) (c .if2 .left)
+returns-3 c = is-not-above _ _ _ (c .before .compare-to-previous .ensures) (omega arith) (λ q. omega arith)
 
 pub not-above-spec : {M : Type 1} → statement M
 not-above-spec = tie.close (tie.spec returns compare-to-previous-requires returns-2 returns-3)
