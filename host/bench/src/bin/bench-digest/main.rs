@@ -5,7 +5,7 @@ mod proved;
 
 use std::process::ExitCode;
 
-use bench::arguments::{self, Arguments};
+use bench::arguments::{is_help, unknown, Arguments};
 use bench::buffer::filled;
 use bench::plain::{Kind, MOST};
 use bench::timing::{seconds, Times};
@@ -119,9 +119,22 @@ fn run(arguments: &Arguments) -> Result<(), String> {
     Kind::ALL.into_iter().try_for_each(|kind| run_kind(kind, &buffer, arguments))
 }
 
+/// The arguments; none where help is asked for.
+fn read(mut list: impl Iterator<Item = String>) -> Result<Option<Arguments>, String> {
+    let mut arguments = Arguments { mib: 200, reps: 5 };
+    while let Some(name) = list.next() {
+        if is_help(&name) {
+            return Ok(None);
+        }
+        if !arguments.take(&name, &mut list)? {
+            return unknown(&name);
+        }
+    }
+    Ok(Some(arguments))
+}
+
 fn main() -> ExitCode {
-    let arguments = match arguments::read(std::env::args().skip(1), Arguments { mib: 200, reps: 5 })
-    {
+    let arguments = match read(std::env::args().skip(1)) {
         Ok(Some(arguments)) => arguments,
         Ok(None) => {
             print!("{HELP}");
