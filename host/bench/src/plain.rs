@@ -2,6 +2,8 @@
 //! proved code is measured against.
 
 mod blocks;
+#[cfg(debug_assertions)]
+pub mod count;
 mod sha1;
 mod sha256;
 mod sha384;
@@ -46,6 +48,8 @@ impl Kind {
 
     /// The digest, which is written to the buffer's start. What is behind it is of no meaning.
     pub fn digest<'a>(self, message: &[u8], buffer: &'a mut [u8; MOST]) -> &'a [u8] {
+        #[cfg(debug_assertions)]
+        count::one();
         match self {
             Kind::Sha1 => write(&sha1::value(message).map(u32::to_be_bytes), buffer),
             Kind::Sha256 | Kind::Sha256Cut => {

@@ -1,11 +1,14 @@
 //! The straightforward checker answers as the reference does, so that what is timed is the
 //! same work.
 
+use std::collections::BTreeSet;
+
 use bench::checker;
 use compare::facts;
 use corpora::cases::checks::{cases, Call, Kind};
 use corpora::cases::signatures;
 use reference::check::{check, Lent};
+use reference::kinds::KINDS;
 use reference::recheck::{recheck, Range};
 use reference::slots::SideFiles;
 
@@ -42,9 +45,29 @@ fn checker_says(call: &Call, marks: &mut [u8]) -> (u32, u64) {
     (verdict.number, verdict.place as u64)
 }
 
+/// Calls that must be among the cases for each hash kind, since they are what is timed.
+const TIMED: [&str; 4] = [
+    "whole check, accepted",
+    "whole check, a page differs",
+    "recheck, no page differs",
+    "recheck, a page differs",
+];
+
+/// Which of these a call is; none where another test refuses.
+fn timed(call: &Call, number: u32) -> Option<&'static str> {
+    match (call.kind, number) {
+        (Kind::WholeCheck, 0) => Some(TIMED[0]),
+        (Kind::WholeCheck, 31) => Some(TIMED[1]),
+        (_, 0) => Some(TIMED[2]),
+        (_, 31) => Some(TIMED[3]),
+        _ => None,
+    }
+}
+
 #[test]
 fn answers_and_marks_agree() {
     let mut marks = Vec::new();
+    let mut met = BTreeSet::new();
     for call in cases() {
         if call.kind != Kind::RecheckAfter {
             marks.clone_from(&call.marks);
@@ -53,7 +76,11 @@ fn answers_and_marks_agree() {
         let wanted = reference_says(&call, &mut after);
         assert_eq!(checker_says(&call, &mut marks), wanted, "{}", call.name);
         assert_eq!(marks, after, "{}", call.name);
+        let kind = trewizlow::read(&call.signature).hash_type;
+        met.extend(timed(&call, wanted.0).map(|what| (what, kind)));
     }
+    let wanted = TIMED.map(|what| KINDS.map(|kind| (what, kind)));
+    assert_eq!(met, wanted.into_iter().flatten().collect());
 }
 
 /// The same for signatures, damaged in every way that the corpus of signatures has.

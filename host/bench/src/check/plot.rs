@@ -13,7 +13,8 @@ use super::measure::Pair;
 /// The height of the title, and of the whole.
 const HEAD: f64 = 44.0;
 const HEIGHT: f64 = HEAD + panel::HEIGHT;
-const TITLE: &str = "Time of a call by the proved library and by a straightforward Rust checker";
+const TITLE: &str =
+    "The proved library and a straightforward Rust checker: least time of a call, SHA-256";
 
 /// A program's line.
 struct Line {

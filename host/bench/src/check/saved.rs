@@ -110,7 +110,8 @@ mod tests {
         let minimum = Pair { library: 0.1 + 0.2, plain: 0.7 };
         let median = Pair { library: 1.0 / 3.0, plain: 0.8 };
         let measured = Measured { samples: 9, minimum, median };
-        let row = |(kind, shift)| Row { kind, page_bytes: 1 << shift, image_bytes: 77, measured };
+        let row =
+            |(kind, shift)| Row { kind, page_bytes: 1usize << shift, image_bytes: 77, measured };
         ASKED.map(row).to_vec()
     }
 

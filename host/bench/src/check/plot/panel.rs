@@ -4,11 +4,11 @@ use super::scale::Scale;
 use super::{stroke, text, Line, LINES};
 use crate::check::growth::Series;
 
-pub const WIDTH: f64 = 420.0;
+pub const WIDTH: f64 = 430.0;
 pub const HEIGHT: f64 = 370.0;
 /// Room for labels about the axes.
 pub const LEFT: f64 = 70.0;
-const RIGHT: f64 = 16.0;
+const RIGHT: f64 = 30.0;
 const TOP: f64 = 30.0;
 const BOTTOM: f64 = 54.0;
 

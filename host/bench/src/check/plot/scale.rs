@@ -94,7 +94,7 @@ mod tests {
         assert_eq!(labels(&[1.0, 1024.0]), ["1", "10", "100", "1,000"]);
         assert_eq!(labels(&[0.02, 3.0]), ["0.02", "0.05", "0.1", "0.2", "0.5", "1", "2"]);
         assert_eq!(labels(&[0.003, 3.0]), ["0.01", "0.1", "1"]);
-        assert_eq!(labels(&[1.0, 2.0]), ["1", "2"]);
+        assert_eq!(labels(&[1.0, 2.0]), ["0.8", "0.9", "1", "2"]);
     }
 
     /// One value has room on both sides, and ticks beside it.
