@@ -2,9 +2,10 @@
 //! every mark is compared.
 
 mod arguments;
-mod build;
 mod builds;
 mod calls;
+mod compiled;
+mod conditions;
 mod fault;
 mod file;
 mod growth;
@@ -31,7 +32,7 @@ use fault::Fault;
 use number::MIB;
 use run::Run;
 
-/// Every answer and mark agrees, and every limit is met.
+/// The exit status where all agree, by the limits of the rows.
 const MET: u8 = 0;
 const NOT_MET: u8 = 3;
 

@@ -1,4 +1,5 @@
-//! Short runs of bench-check itself, so that it cannot rot.
+//! Runs of bench-check itself: short ones of all parts, so that it cannot rot, joined builds, and
+//! what is refused.
 
 use std::fs;
 use std::path::{Path, PathBuf};

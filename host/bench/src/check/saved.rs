@@ -3,7 +3,7 @@
 
 use std::path::Path;
 
-use super::build;
+use super::compiled;
 use super::fault::Fault;
 use super::file;
 use super::measure::{Measured, Pair};
@@ -55,7 +55,7 @@ fn text(rows: &[Row], build: &str) -> String {
 }
 
 pub fn write(path: &Path, rows: &[Row]) -> Result<(), Fault> {
-    file::write(path, &text(rows, &build::rust()))
+    file::write(path, &text(rows, &compiled::rust()))
 }
 
 /// A number above 0.

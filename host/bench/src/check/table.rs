@@ -34,10 +34,11 @@ pub fn times(title: &str, unit: Unit, calls: &[Timed]) -> String {
     let mut text = format!("\n{title}; {} a call\n", unit.name);
     let width = PAIR_HEAD.len();
     writeln!(text, "{:WHAT$}  {:^width$}  {:^width$}", "", "minimum", "median").unwrap();
-    writeln!(text, "{:WHAT$}  {PAIR_HEAD}  {PAIR_HEAD}", "").unwrap();
+    writeln!(text, "{:WHAT$}  {PAIR_HEAD}  {PAIR_HEAD}  samples", "").unwrap();
     for Timed { what, measured } in calls {
         let (minimum, median) = (pair(unit, measured.minimum), pair(unit, measured.median));
-        writeln!(text, "{what:WHAT$}  {minimum}  {median}").unwrap();
+        let samples = measured.samples;
+        writeln!(text, "{what:WHAT$}  {minimum}  {median}  {samples:7}").unwrap();
     }
     text
 }
