@@ -61,6 +61,6 @@ fn a_run_ends_with_status_1() {
     if hash_instructions(&this()).is_some() {
         let (status, tables, progress) = ran::in_process(&Programs::COMPARED, &["--mib", "1"]);
         assert_eq!((status, tables.as_str()), (1, ""));
-        assert!(progress.contains("1 hash instructions, the first is sha256rnds2"), "{progress}");
+        assert!(progress.contains("hash instructions: 1, the first sha256rnds2"), "{progress}");
     }
 }

@@ -5,6 +5,7 @@ use std::fmt::Write;
 use std::path::PathBuf;
 
 use super::fault::Fault;
+use super::measure::Measured;
 use super::number::MIB;
 use super::rows::{verdict, Row, LIMIT};
 use super::saved::{read, Saved};
@@ -18,39 +19,37 @@ fn range(numbers: impl Iterator<Item = f64>) -> (f64, f64) {
     numbers.fold((f64::MAX, f64::MIN), |(low, high), number| (low.min(number), high.max(number)))
 }
 
-fn to((low, high): (f64, f64), decimals: usize) -> String {
-    format!("{low:.decimals$} to {high:.decimals$}")
+/// A line of a row's table.
+fn line(name: &str, [minimum, median, speed]: [String; 3]) -> String {
+    format!("{name:NAME$}  {minimum:>16}  {median:>16}  {speed:>16}\n")
 }
 
-/// The highest ratio over the builds, by minimum or by median.
-fn least_favourable(rows: &[&Row]) -> f64 {
-    range(rows.iter().map(|row| row.ratio())).1
+/// Ratio by minimum, ratio by median, and the Rust side's speed, with the decimals that each has.
+fn figures(row: &Row) -> [(f64, usize); 3] {
+    let Measured { minimum, median, .. } = row.measured;
+    [(minimum.ratio(), 3), (median.ratio(), 3), (row.speeds()[1], 1)]
+}
+
+/// One figure's range over the builds.
+fn spread(rows: &[&Row], figure: usize) -> String {
+    let (low, high) = range(rows.iter().map(|row| figures(row)[figure].0));
+    let decimals = figures(rows[0])[figure].1;
+    format!("{low:.decimals$} to {high:.decimals$}")
 }
 
 /// One row: each build, the range, and the least favourable against the limit.
 fn table(builds: &[Saved], rows: &[&Row]) -> String {
-    let mut text = format!("\nwhole check, {}\n", rows[0].what());
-    writeln!(
-        text,
-        "{:NAME$}  {:>16}  {:>16}  {:>16}",
-        "build", "ratio, minimum", "ratio, median", "Rust, MB/s"
-    )
-    .unwrap();
+    let mut text = format!("\n{}\n", rows[0].what());
+    let heads = ["ratio, minimum", "ratio, median", "Rust, MB/s"];
+    text += &line("build", heads.map(str::to_string));
     for (build, row) in builds.iter().zip(rows) {
-        let [minimum, median] =
-            [row.measured.minimum, row.measured.median].map(|pair| pair.ratio());
-        let speed = row.speeds().plain;
-        writeln!(text, "{:NAME$}  {minimum:16.3}  {median:16.3}  {speed:16.1}", build.name)
-            .unwrap();
+        let figures = figures(row).map(|(figure, decimals)| format!("{figure:.decimals$}"));
+        text += &line(&build.name, figures);
     }
-    let minimum = to(range(rows.iter().map(|row| row.measured.minimum.ratio())), 3);
-    let median = to(range(rows.iter().map(|row| row.measured.median.ratio())), 3);
-    let speed = to(range(rows.iter().map(|row| row.speeds().plain)), 1);
-    writeln!(text, "{:NAME$}  {minimum:>16}  {median:>16}  {speed:>16}", "range").unwrap();
-    let ratio = least_favourable(rows);
+    text += &line("range", [0, 1, 2].map(|figure| spread(rows, figure)));
+    let (_, ratio) = range(rows.iter().map(|row| row.ratio()));
     let verdict = verdict(ratio);
-    writeln!(text, "{:NAME$}  {ratio:16.3}  limit {LIMIT}: {verdict}", "least favourable").unwrap();
-    text
+    text + &format!("{:NAME$}  {ratio:16.3}  limit {LIMIT}: {verdict}\n", "least favourable")
 }
 
 /// The builds' flags, and the image that all of them checked.

@@ -19,7 +19,7 @@ fn no_hash_instructions(executable: &Path) -> Result<String, Fault> {
         )),
         Search::Done(found) => {
             let (count, first) = (found.hash.len(), &found.hash[0]);
-            Err(Fault::differs(format!("{count} hash instructions, the first is {first}")))
+            Err(Fault::differs(format!("hash instructions: {count}, the first {first}")))
         }
     }
 }

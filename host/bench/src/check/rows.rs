@@ -1,7 +1,5 @@
 //! The whole checks that have a limit.
 
-use std::fmt::Write;
-
 use super::fault::Fault;
 use super::measure::{Measured, Pair};
 use super::number::{grouped, MIB};
@@ -25,13 +23,22 @@ pub struct Row {
     pub measured: Measured,
 }
 
+fn met(ratio: f64) -> bool {
+    ratio <= LIMIT
+}
+
 /// Against the limit.
 pub fn verdict(ratio: f64) -> &'static str {
-    if ratio <= LIMIT {
+    if met(ratio) {
         "met"
     } else {
         "not met"
     }
+}
+
+/// A row in words.
+fn whole_check(kind: Kind, page_bytes: usize) -> String {
+    format!("whole check, pages of {} bytes, {}", grouped(page_bytes), kind.name())
 }
 
 impl Row {
@@ -41,52 +48,52 @@ impl Row {
     }
 
     pub fn met(&self) -> bool {
-        self.ratio() <= LIMIT
+        met(self.ratio())
     }
 
-    /// 10^6 bytes a second by minimum.
-    pub fn speeds(&self) -> Pair {
-        let speed = |seconds: f64| self.image_bytes as f64 / seconds / 1e6;
+    /// 10^6 bytes a second by minimum: the library's, and Rust's.
+    pub fn speeds(&self) -> [f64; 2] {
         let Pair { library, plain } = self.measured.minimum;
-        Pair { library: speed(library), plain: speed(plain) }
+        [library, plain].map(|seconds| self.image_bytes as f64 / seconds / 1e6)
     }
 
     pub fn what(&self) -> String {
-        let (bytes, hash) = (grouped(self.page_bytes), self.kind.name());
-        format!("pages of {bytes} bytes, {hash}")
+        whole_check(self.kind, self.page_bytes)
     }
 }
 
 pub fn measure(run: &mut Run, image: &[u8]) -> Result<Vec<Row>, Fault> {
     let asked = ASKED.into_iter().map(|(kind, shift)| {
         let scene = Scene::new(kind, image, shift);
-        let pages = grouped(scene.page_size);
-        let what = format!("whole check, pages of {pages} bytes, {}", kind.name());
-        let measured = run.whole(what, &scene, image)?.measured;
-        Ok(Row { kind, page_bytes: scene.page_size, image_bytes: image.len(), measured })
+        let page_bytes = scene.page_size;
+        let measured = run.whole(whole_check(kind, page_bytes), &scene, image)?.measured;
+        Ok(Row { kind, page_bytes, image_bytes: image.len(), measured })
     });
     asked.collect()
 }
 
-pub fn table(rows: &[Row]) -> String {
+/// Two lines above the rows.
+fn head() -> String {
     let width = PAIR_HEAD.len();
-    let mut text = format!(
-        "\nWhole checks of {} MiB; ms a call, MB/s by minimum (10^6 bytes a second)\n",
-        rows[0].image_bytes / MIB
-    );
+    let (minimum, median, speeds) = ("minimum", "median", "MB/s");
+    let above = format!("{:16}  {minimum:^width$}  {median:^width$}  {speeds:^17}", "");
     let (pages, hash) = ("pages", "hash");
-    writeln!(text, "{:16}  {:^width$}  {:^width$}  {:^16}", "", "minimum", "median", "MB/s")
-        .unwrap();
-    let heads = format!("{PAIR_HEAD}  {PAIR_HEAD}");
-    writeln!(text, "{pages:>6}  {hash:8}  {heads}   library    Rust  limit").unwrap();
-    for row in rows {
-        let (bytes, hash) = (grouped(row.page_bytes), row.kind.name());
-        let [minimum, median] =
-            [row.measured.minimum, row.measured.median].map(|times| pair(MILLISECONDS, times));
-        let (speeds, verdict) = (row.speeds(), verdict(row.ratio()));
-        let speeds = format!("{:9.1} {:7.1}", speeds.library, speeds.plain);
-        writeln!(text, "{bytes:>6}  {hash:8}  {minimum}  {median}  {speeds}  {LIMIT:5}  {verdict}")
-            .unwrap();
-    }
-    text
+    let below = format!("{pages:>6}  {hash:8}  {PAIR_HEAD}  {PAIR_HEAD}    library    Rust  limit");
+    format!("{}\n{below}\n", above.trim_end())
+}
+
+fn line(row: &Row) -> String {
+    let (pages, hash) = (grouped(row.page_bytes), row.kind.name());
+    let Measured { minimum, median, .. } = row.measured;
+    let [minimum, median] = [minimum, median].map(|times| pair(MILLISECONDS, times));
+    let ([library, plain], verdict) = (row.speeds(), verdict(row.ratio()));
+    let speeds = format!("{library:9.1} {plain:7.1}");
+    format!("{pages:>6}  {hash:8}  {minimum}  {median}  {speeds}  {LIMIT:5}  {verdict}\n")
+}
+
+pub fn table(rows: &[Row]) -> String {
+    let mib = rows[0].image_bytes / MIB;
+    let title = "ms a call, MB/s by minimum (10^6 bytes a second)";
+    let lines: String = rows.iter().map(line).collect();
+    format!("\nWhole checks of {mib} MiB; {title}\n{}{lines}", head())
 }

@@ -33,7 +33,8 @@ pub fn pair(unit: Unit, pair: Pair) -> String {
 pub fn times(title: &str, unit: Unit, calls: &[Timed]) -> String {
     let mut text = format!("\n{title}; {} a call\n", unit.name);
     let width = PAIR_HEAD.len();
-    writeln!(text, "{:WHAT$}  {:^width$}  {:^width$}", "", "minimum", "median").unwrap();
+    let above = format!("{:WHAT$}  {:^width$}  {:^width$}", "", "minimum", "median");
+    writeln!(text, "{}", above.trim_end()).unwrap();
     writeln!(text, "{:WHAT$}  {PAIR_HEAD}  {PAIR_HEAD}  samples", "").unwrap();
     for Timed { what, measured } in calls {
         let (minimum, median) = (pair(unit, measured.minimum), pair(unit, measured.median));
