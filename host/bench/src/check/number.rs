@@ -8,7 +8,7 @@ pub fn grouped(number: usize) -> String {
     if first > 0 {
         groups.push(&digits[..first]);
     }
-    let rest = digits[first..].as_bytes().chunks(3);
+    let rest = digits.as_bytes()[first..].chunks(3);
     groups.extend(rest.map(|group| std::str::from_utf8(group).expect("digits")));
     groups.join(",")
 }

@@ -4,11 +4,13 @@ use trewizlow::{Answer, Lent, Verdict};
 
 use crate::checker;
 
+/// Signature, start and length of the range, the bytes of the pages met, marks.
+pub type Recheck = fn(&[u8], u64, u64, &[u8], &mut [u8]) -> Answer;
+
 #[derive(Clone, Copy)]
 pub struct Program {
     pub check: fn(&Lent, &mut [u8]) -> Verdict,
-    /// Signature, start and length of the range, the bytes of the pages met, marks.
-    pub recheck: fn(&[u8], u64, u64, &[u8], &mut [u8]) -> Answer,
+    pub recheck: Recheck,
 }
 
 #[derive(Clone, Copy)]
