@@ -84,7 +84,8 @@ fn compare_entries(c: &[u8], i: usize, j: usize) -> usize
     EQUAL
 }
 
-// How the hash of entry i stands to that of the entry before it. In a cache that passed 24 both are whole.
+// How the hash of entry i stands to that of the entry before it. In a cache that passed 24 both are whole, and are compared where
+// they lie: the order test reads every entry, and `compare` takes several times as long.
 fn compare_to_previous(c: &[u8], i: usize) -> usize
     requires { ⌜ 0 < i ⌝ }
     ensures { λ r. ⌜ r ≡ order (hashAt (now (c .entry)) i) (hashAt (now (c .entry)) (i - 1)) ⌝ }
