@@ -1,6 +1,6 @@
 -- Laws of marks: what a mark says, the marks of an image, and what the routine that writes them is lent and leaves.
 use Prim.Native.Nat.{ℕ, _+_, _-_, _*_, _≤_, _<_, min}
-use mathlib.Core.Path.{_≡_, refl, sym, ap, _∙_}
+use mathlib.Core.Path.{_≡_, refl, sym, ap, subst, _∙_}
 use mathlib.Core.Logic.{_⊎_, inl, inr, _↔_}
 use mathlib.Core.Bool.{Bool, true, false, cond}
 use mathlib.Core.List.{List, _++_, append-assoc}
@@ -15,6 +15,7 @@ use Rattle.digest.specs.Kinds.{digestOf}
 use Rattle.digest.specs.Same.{same}
 use Rattle.digest.proofs.Digests.{digest-first}
 use Rattle.digest.proofs.Equality.{same-equal, equal-same}
+use Rattle.layout.specs.CodeDirectory.{widthOf}
 use Rattle.layout.proofs.Widths.{slot-end}
 use Rattle.geometry.specs.Pages.{pageCount, pageStart, pageEnd, part, pageOf, metFirst, metEnd}
 use Rattle.marks.specs.Marks.{Slots, width, slotAt, agrees, AgreesExactly, markOf, marksOf, markIn, marksFrom, remarked, neither, differs, markRows, badRows, judged, PageHere, PagesHere, RangeHere}
@@ -58,13 +59,14 @@ module _ (slots : Slots) (n at w : ℕ) (place : at ≡ width slots * n) (wide :
   cut-mark d v b h t m e = t ∙ mark-of slots n m b (cut-agrees d b h m e)
 
 -- of page n, by the digest d of its bytes m and the slot of page k
-pub page-mark : (p limit : ℕ) (slots : Slots) (from : ℕ) (bytes : List ℕ) (k n : ℕ) (d m : List ℕ) (v : ℕ)
+pub page-mark : (p limit : ℕ) (slots : Slots) (from : ℕ) (bytes : List ℕ) (kind k n : ℕ) (d m : List ℕ) (v : ℕ)
     → ((m : List ℕ) → d ≡ digestOf (slots .kind) m ++ replicate (48 - width slots) 0 → v ≡ markOf slots k m)
-    → d ≡ digestOf (slots .kind) m ++ replicate (48 - width slots) 0
-    → m ≡ part bytes (pageStart p n - pageStart p from) (pageEnd p limit n - pageStart p from) → k ≡ n → v ≡ markIn p limit slots from bytes n
-page-mark p limit slots from bytes k n d m v h e q w =
-    h m e ∙ ap (markOf slots k) q
-    ∙ ap (λ (x : ℕ). markOf slots x (part bytes (pageStart p n - pageStart p from) (pageEnd p limit n - pageStart p from))) w
+    → d ≡ digestOf kind m ++ replicate (48 - widthOf kind) 0
+    → m ≡ part bytes (pageStart p n - pageStart p from) (pageEnd p limit n - pageStart p from) → kind ≡ slots .kind → k ≡ n
+    → v ≡ markIn p limit slots from bytes n
+page-mark p limit slots from bytes kind k n d m v h e q x y =
+    h m (subst (λ (t : ℕ). d ≡ digestOf t m ++ replicate (48 - widthOf t) 0) x e) ∙ ap (markOf slots k) q
+    ∙ ap (λ (i : ℕ). markOf slots i (part bytes (pageStart p n - pageStart p from) (pageEnd p limit n - pageStart p from))) y
 
 -- the mark is 0 exactly when the slot holds the digest
 pub mark-exact : (slots : Slots) (i : ℕ) (bytes : List ℕ) → (markOf slots i bytes ≡ 0) ↔ (digestOf (slots .kind) bytes ≡ slotAt slots i)

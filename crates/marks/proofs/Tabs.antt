@@ -106,7 +106,7 @@ tab-four n f ea eb ec ed =
 pub four-at : (first i : ℕ) (f : ℕ → ℕ) (four : List ℕ) (k j : ℕ) → k < 4 → j ≡ i + k → four ≡ tab (first + i) 4 f → getD four k 0 ≡ f (first + j)
 four-at first i f four k j h u e = rw e (tab-at (first + i) 4 f k 0 h ∙ ap f (omega arith))
 
--- what was filled so far is kept by who goes on
+-- a list that was filled so far, as who goes on finds it
 pub tab-kept : (first i : ℕ) (f : ℕ → ℕ) (l m : List ℕ) → l ≡ tab first i f ++ drop i m → l ≡ tab first i f ++ drop i l
 tab-kept first i f l m e =
     let k : drop i l ≡ drop i m = rw e (drop-at (tab first i f) (drop i m) i (tab-length first i f)) in

@@ -1,7 +1,7 @@
 // Marks of pages: written, tested and judged, with tests 31 and 34 (document 01, "Pages").
 //
 // The mark of a page is 0 where the digest of its bytes is what its code slot holds, and 1 where it is not. One routine hashes pages
-// and writes marks, for every hash kind.
+// and writes marks, for every hash kind: by fours, since four pages side by side take less time, and what is left one by one.
 use geometry::page_end;
 use layout::directory::CodeDirectory;
 use refusals::Answer;
@@ -90,7 +90,7 @@ fn mark_four(
     ]
 }
 
-// Writes the marks of the pages from `from` on by fours, as far as fours go, and gives their number.
+// Writes the marks of the pages from `from` on, as far as fours go, and gives their number.
 fn mark_fours(
     p: usize,
     limit: usize,

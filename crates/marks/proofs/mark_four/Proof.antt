@@ -71,10 +71,10 @@ returns c =
     let a = b .args in
     let s = slotsOfKind (a .kind) (now (a .slots)) in
     tab-four (a .n) (markIn (a .p) (a .limit) s (a .from) (now (a .bytes)))
-    (page-mark (a .p) (a .limit) s (a .from) (now (a .bytes)) _ (a .n) _ _ _ (c .before .before .before .mark-of .ensures) (x .digest-four .ensures .0) (x .before .before .before .before .page-bytes .ensures) (omega arith))
-    (page-mark (a .p) (a .limit) s (a .from) (now (a .bytes)) _ (a .n + 1) _ _ _ (c .before .before .mark-of2 .ensures) (x .digest-four .ensures .1) (x .before .before .before .page-bytes2 .ensures) (omega arith))
-    (page-mark (a .p) (a .limit) s (a .from) (now (a .bytes)) _ (a .n + 2) _ _ _ (c .before .mark-of3 .ensures) (x .digest-four .ensures .2) (x .before .before .page-bytes3 .ensures) (omega arith))
-    (page-mark (a .p) (a .limit) s (a .from) (now (a .bytes)) _ (a .n + 3) _ _ _ (c .mark-of4 .ensures) (x .digest-four .ensures .3) (x .before .page-bytes4 .ensures) (omega arith))
+    (page-mark (a .p) (a .limit) s (a .from) (now (a .bytes)) _ _ (a .n) _ _ _ (c .before .before .before .mark-of .ensures) (x .digest-four .ensures .0) (x .before .before .before .before .page-bytes .ensures) (omega arith) (omega arith))
+    (page-mark (a .p) (a .limit) s (a .from) (now (a .bytes)) _ _ (a .n + 1) _ _ _ (c .before .before .mark-of2 .ensures) (x .digest-four .ensures .1) (x .before .before .before .page-bytes2 .ensures) (omega arith) (omega arith))
+    (page-mark (a .p) (a .limit) s (a .from) (now (a .bytes)) _ _ (a .n + 2) _ _ _ (c .before .mark-of3 .ensures) (x .digest-four .ensures .2) (x .before .before .page-bytes3 .ensures) (omega arith) (omega arith))
+    (page-mark (a .p) (a .limit) s (a .from) (now (a .bytes)) _ _ (a .n + 3) _ _ _ (c .mark-of4 .ensures) (x .digest-four .ensures .3) (x .before .page-bytes4 .ensures) (omega arith) (omega arith))
 
 pub mark-four-spec : {M : Type 1} → statement M
 mark-four-spec =

@@ -19,7 +19,7 @@ mark-of-requires c κs = slot-before _ _ _ _ (c .before .before .before .before 
 returns : tie.Need-returns
 returns c =
     let a = c .before .before .before .before .before .args in
-    page-mark (a .p) (a .limit) (slotsOfKind (a .kind) (now (a .slots))) (a .from) (now (a .bytes)) _ (a .n) _ _ _ (c .mark-of .ensures) (c .before .digest .ensures) (c .before .before .page-bytes .ensures) (omega arith)
+    page-mark (a .p) (a .limit) (slotsOfKind (a .kind) (now (a .slots))) (a .from) (now (a .bytes)) _ _ (a .n) _ _ _ (c .mark-of .ensures) (c .before .digest .ensures) (c .before .before .page-bytes .ensures) (omega arith) (omega arith)
 
 pub mark-page-spec : {M : Type 1} → statement M
 mark-page-spec = tie.close (tie.spec page-bytes-requires digest-requires mark-of-requires returns)
