@@ -1,2 +1,3 @@
 pub mod Kinds
 pub mod Same
+pub mod SideBySide

@@ -57,7 +57,13 @@ fn mark_page(
     mark_of(kind, slots, n, digest::digest(kind, page))
 }
 
-// The marks of page n and the three behind it, hashed side by side where that is possible.
+// The marks of four pages that were hashed side by side; a count of 0 says that they cannot be.
+struct FourMarks {
+    count: usize,
+    marks: [u8; 4],
+}
+
+// The marks of page n and the three behind it, where they can be hashed side by side.
 fn mark_four(
     p: usize,
     limit: usize,
@@ -66,9 +72,9 @@ fn mark_four(
     from: usize,
     n: usize,
     bytes: &[u8],
-) -> [u8; 4]
+) -> FourMarks
     requires { ⌜ (from ≤ n) × PageHere p limit (slotsOfKind kind (now slots)) from (n + 3) (now bytes) ⌝ }
-    ensures { λ r. ⌜ r ≡ tab n 4 (markIn p limit (slotsOfKind kind (now (slots .entry))) from (now (bytes .entry))) ⌝ }
+    ensures { λ r. ⌜ ((r .count ≡ 0 → ⊥) → r .marks ≡ tab n 4 (markIn p limit (slotsOfKind kind (now (slots .entry))) from (now (bytes .entry)))) ⌝ }
 {
     let n1 = n + 1;
     let n2 = n + 2;
@@ -77,20 +83,29 @@ fn mark_four(
     let b = page_bytes(p, limit, from, n1, bytes);
     let c = page_bytes(p, limit, from, n2, bytes);
     let d = page_bytes(p, limit, from, n3, bytes);
-    let x = digest::digest_four(kind, a, b, c, d);
-    let xa = x.a;
-    let xb = x.b;
-    let xc = x.c;
-    let xd = x.d;
-    [
-        mark_of(kind, slots, n, xa),
-        mark_of(kind, slots, n1, xb),
-        mark_of(kind, slots, n2, xc),
-        mark_of(kind, slots, n3, xd),
-    ]
+    if digest::side_by_side(kind, a, b, c, d) {
+        let x = digest::digest_four(kind, a, b, c, d);
+        let xa = x.a;
+        let xb = x.b;
+        let xc = x.c;
+        let xd = x.d;
+        return FourMarks {
+            count: 4,
+            marks: [
+                mark_of(kind, slots, n, xa),
+                mark_of(kind, slots, n1, xb),
+                mark_of(kind, slots, n2, xc),
+                mark_of(kind, slots, n3, xd),
+            ],
+        };
+    }
+    FourMarks {
+        count: 0,
+        marks: [0; 4],
+    }
 }
 
-// Writes the marks of the pages from `from` on, as far as fours go, and gives their number.
+// Writes the marks of the pages from `from` on, four at a time, as far as four can be hashed side by side, and gives their number.
 fn mark_fours(
     p: usize,
     limit: usize,
@@ -106,10 +121,14 @@ fn mark_fours(
     let mut i = 0;
     while 4 <= marks.len() - i {
         let four = mark_four(p, limit, kind, slots, from, from + i, bytes);
-        marks[i] = four[0];
-        marks[i + 1] = four[1];
-        marks[i + 2] = four[2];
-        marks[i + 3] = four[3];
+        let m = four.marks;
+        if four.count == 0 {
+            return i;
+        }
+        marks[i] = m[0];
+        marks[i + 1] = m[1];
+        marks[i + 2] = m[2];
+        marks[i + 3] = m[3];
         i += 4;
     }
     i

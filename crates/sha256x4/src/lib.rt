@@ -1,8 +1,7 @@
 // SHA-256 of four messages of one length, side by side (FIPS 180-4, section 6.2).
 //
-// A round waits for the round before it, and one message's rounds leave most of a processor idle. Four messages at once take less than
-// twice the time of one, with the instructions that every x86-64 has: `word` and `block` are written so that the compiler puts the words of
-// the four into vector registers. The last bytes of each message, with the padding, go through `sha32`.
+// Four messages at once take about twice the time of one: `word` and `block` are written so that the compiler puts the words of the four
+// into vector registers, which every x86-64 has. The last bytes of each message, with the padding, go through `sha32`.
 mod block;
 mod word;
 

@@ -1,7 +1,7 @@
 // The block step of SHA-384 and SHA-512, FIPS 180-4, section 6.4.2.
 //
 // Names are the standard's: a block's words w, the working words s (a to h), T1 and T2, the hash value h. Sixteen words of the schedule
-// are kept: each new one stands in the place of the one sixteen before it, behind the round that uses that one. Every call gives its place
+// are kept: each new one takes the place of the one sixteen before it, in the step whose round uses that one. Every call gives its place
 // as a literal, and so its index in the table of constants: neither needs an array in memory.
 use super::load::load_block;
 use super::word::add;
@@ -214,7 +214,8 @@ struct State {
     w: [u64; 16],
 }
 
-// Round i of a turn, and then the new word at place i.
+// The new word at place i, and round i of a turn with the word that stood there. The word is made first: so the compiled code takes no longer
+// wherever it comes to lie.
 fn step(x: State, k: [u64; 16], i: usize) -> State
     requires { ⌜ i < 16 ⌝ }
     ensures { λ r. ⌜ (r .s ≡ roundWith core512 k i (x .s) (getD (x .w) i 0)) × (r .w ≡ renewed (mixed core512) i (x .w)) ⌝ }

@@ -1,6 +1,6 @@
 // The functions of FIPS 180-4, section 4.1.3, on words of 64 bits. Ch and Maj are computed in forms that take fewer operations
 // than the standard's (`ch-short` and `maj-short` of `sha`). The sigmas rotate around a rotation (`big-sigma-nested`, `small-sigma-nested`),
-// which takes fewer copies of the word where a rotation overwrites what it rotates.
+// which takes fewer copies of the word where a rotation overwrites what it rotates; but for Σ1, on whose result a round waits longest.
 ghost use mathlib.Core.Path.{_≡_};
 ghost use Prim.Native.Nat.{_<_};
 ghost use Rattle.sha.specs.Words.{plus, rotr, ch, maj, bigSigma, smallSigma};

@@ -17,7 +17,7 @@ returns-3 c = λ e. absurd (false≢true e)
 returns-4 : tie.Need-returns-4
 returns-4 c = λ e.
     let w = middle-sha256 (c .before .before .before .before .before .args .kind) (omega arith) (omega arith) in
-    (w .0, w .1, omega arith, omega arith, omega arith)
+    record { cut = w .0; narrow = w .1; second = omega arith; third = omega arith; fourth = omega arith }
 
 returns-5 : tie.Need-returns-5
 returns-5 c = λ e. absurd (false≢true e)

@@ -36,6 +36,12 @@ mark-four-requires c κs =
     let b = c .before .before .before .before .before in
     (omega arith, page-of _ _ _ _ (length (now (b .args .marks))) _ (b .args .from + c .before .loop .i + 3) (b .pre) (omega arith) (omega arith))
 
+same-length : tie.Need-same-length Inv-loop μ-loop
+same-length c = c .before .before .before .before .before .loop .inv .1
+
+returns : tie.Need-returns Inv-loop μ-loop
+returns c = let l = c .before .before .before .before .before .loop in (l .inv .2, l .inv .0)
+
 array-read-marks : tie.Need-array-read-marks Inv-loop μ-loop
 array-read-marks c = search needs
 
@@ -77,25 +83,26 @@ loop-less c = omega arith
 
 loop-again : tie.Need-loop-again Inv-loop μ-loop
 loop-again c =
-    let l = c .before .before .loop in
-    let a = c .before .before .before .before .before .before .args in
-    let f = markIn (a .p) (a .limit) (slotsOfKind (a .kind) (now (a .slots))) (a .from) (now (a .bytes)) in
-    let four = c .mark-four .result in
-    let e = c .mark-four .ensures in (
+    let f = c .before .before .before in
+    let l = f .before .before .loop in
+    let a = f .before .before .before .before .before .before .args in
+    let g = markIn (a .p) (a .limit) (slotsOfKind (a .kind) (now (a .slots))) (a .from) (now (a .bytes)) in
+    let four = f .mark-four .result .marks in
+    let e = f .mark-four .ensures (c .if1 .left) in (
       omega arith,
       simp length-set (l .inv .1),
-      tab-more-four (a .from) (l .i) f (now (a .marks)) (l .marks) (l .inv .2) (omega arith)
-          (four-at (a .from) (l .i) f four 0 _ (omega arith) (omega arith) e)
-          (four-at (a .from) (l .i) f four 1 _ (omega arith) (omega arith) e)
-          (four-at (a .from) (l .i) f four 2 _ (omega arith) (omega arith) e)
-          (four-at (a .from) (l .i) f four 3 _ (omega arith) (omega arith) e),
+      tab-more-four (a .from) (l .i) g (now (a .marks)) (l .marks) (l .inv .2) (omega arith)
+          (four-at (a .from) (l .i) g four 0 _ (omega arith) (omega arith) e)
+          (four-at (a .from) (l .i) g four 1 _ (omega arith) (omega arith) e)
+          (four-at (a .from) (l .i) g four 2 _ (omega arith) (omega arith) e)
+          (four-at (a .from) (l .i) g four 3 _ (omega arith) (omega arith) e),
     )
 
-same-length : tie.Need-same-length Inv-loop μ-loop
-same-length c = c .before .loop .inv .1
+same-length-2 : tie.Need-same-length-2 Inv-loop μ-loop
+same-length-2 c = c .before .loop .inv .1
 
-returns : tie.Need-returns Inv-loop μ-loop
-returns c = (c .before .loop .inv .2, c .before .loop .inv .0)
+returns-2 : tie.Need-returns-2 Inv-loop μ-loop
+returns-2 c = (c .before .loop .inv .2, c .before .loop .inv .0)
 
 pub mark-fours-spec : {M : Type 1} → statement M
 mark-fours-spec =
@@ -107,6 +114,8 @@ mark-fours-spec =
     sub-loop
     add-mark-four
     mark-four-requires
+    same-length
+    returns
     array-read-marks
     slice-write-marks
     array-read-marks-2
@@ -121,5 +130,5 @@ mark-fours-spec =
     add-i
     loop-less
     loop-again
-    same-length
-    returns)
+    same-length-2
+    returns-2)
