@@ -14,6 +14,7 @@ use crate::case::{operation, Case, CACHE, FACTS, IMAGE, INFO, MARKS, RANGE, RESO
 mod chains;
 mod faults;
 mod flags;
+mod fours;
 mod kinds;
 mod limits;
 mod pairs;
@@ -58,6 +59,7 @@ pub fn cases() -> Vec<Call> {
     rechecks::add(&mut calls);
     chains::add(&mut calls);
     kinds::add(&mut calls);
+    fours::add(&mut calls);
     calls
 }
 
