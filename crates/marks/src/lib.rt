@@ -1,7 +1,8 @@
 // Marks of pages: written, tested and judged, with tests 31 and 34 (document 01, "Pages").
 //
 // The mark of a page is 0 where the digest of its bytes is what its code slot holds, and 1 where it is not. One routine hashes pages
-// and writes marks, for every hash kind: by fours, since four pages side by side take less time, and what is left one by one.
+// and writes marks, for every hash kind: pages of SHA-256, cut or not, by fours, since four side by side take less time; what is left,
+// and pages of the other kinds, one by one.
 use geometry::page_end;
 use layout::directory::CodeDirectory;
 use refusals::Answer;

@@ -2,7 +2,8 @@
 //
 // Names are the standard's: a block's words w, the working words s (a to h), T1 and T2, the hash value h. Word i of message j stands at place
 // 4 * i + j, so that each operation meets four words in a row, which the compiler puts into one vector register. Sixteen words of each
-// message's schedule are kept, as in `sha32`: the words stay in memory, since their places go by the round.
+// message's schedule are kept, as in `sha32`; but in memory, since their places go by the round. T1, T2 and a new word differ from those of
+// `sha32` in the Σ and σ that they call.
 use super::word::big_sigma0;
 use super::word::big_sigma1;
 use super::word::small_sigma0;

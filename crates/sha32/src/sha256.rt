@@ -197,8 +197,8 @@ struct State {
     w: [u32; 16],
 }
 
-// The new word at place i, and round i of a turn with the word that stood there. The word is made first: so the compiled code takes no longer
-// wherever it comes to lie.
+// The new word at place i, and round i of a turn with the word that stood there. The word is made first: otherwise the compiled code's time
+// goes by where it lies (docs/DECISIONS.md).
 fn step(x: State, k: [u32; 16], i: usize) -> State
     requires { ⌜ i < 16 ⌝ }
     ensures { λ r. ⌜ (r .s ≡ roundWith core256 k i (x .s) (getD (x .w) i 0)) × (r .w ≡ renewed (mixed core256) i (x .w)) ⌝ }

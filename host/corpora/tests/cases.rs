@@ -299,6 +299,6 @@ fn number_of_cases() {
     let counts: Vec<(&str, usize)> =
         made.iter().map(|made| (made.name, made.lines.len())).collect();
     let wanted =
-        [("signatures", 3531), ("readers", 245), ("slots", 826), ("caches", 435), ("checks", 2212)];
+        [("signatures", 3531), ("readers", 245), ("slots", 826), ("caches", 435), ("checks", 2352)];
     assert_eq!(counts, wanted);
 }

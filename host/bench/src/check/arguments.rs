@@ -54,8 +54,8 @@ pub fn help() -> String {
     let Measuring { size: Arguments { mib, reps }, short_reps, most_mib, .. } = DEFAULT;
     format!(
         "{USAGE}
-Times the proved library and a straightforward Rust checker in one run, compares every answer
-and mark, and prints both times and their ratio.
+Times the proved library and a straightforward Rust checker in one run, compares answer and
+marks of every sample, and prints both times and their ratio.
 
   --part P        rows: the whole checks that have a limit, {LIMIT} times as long as Rust: pages
                   of 4,096 and 16,384 bytes by SHA-256 and SHA-384. calls: other whole checks,

@@ -10,7 +10,7 @@ const PAGE: usize = 4096;
 
 pub fn add(calls: &mut Vec<Call>) {
     for kind in KINDS {
-        // Twice four; twice four and one; the same with a short last page.
+        // Twice four; twice four and one; twice four with a short last page.
         for length in [8 * PAGE, 9 * PAGE, 8 * PAGE - 1] {
             each_page_changed(calls, kind, length);
         }
