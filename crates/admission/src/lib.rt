@@ -3,6 +3,8 @@
 // Each first runs its tests in the paper's order, each group by the crate that owns it. Where none refuses, pages are hashed and their
 // marks written: of a whole check all pages of the image, of a recheck the pages that its range meets. The marks decide the answer. The
 // tables are specs/Check.antt, specs/File.antt and specs/Recheck.antt.
+#![tactic(auto)]
+
 ghost use Rattle.std.specs.Prelude.{cond, ◌++◌, ◌≡◌};
 ghost use Rattle.refusals.specs.Refusals.{first, accepted};
 ghost use Rattle.layout.specs.CodeDirectory.{KnownKind, hash_type};
@@ -23,7 +25,7 @@ use trustcache::Launch;
 
 // What a whole check answers: a refusal number with its place, or 0 with the cache entry that lists the directory's hash.
 #[repr(C)]
-#[derive(Drop)]
+#[derive(Clone, Copy)]
 pub struct Verdict {
     pub number: u32,
     pub place: usize,
@@ -109,7 +111,7 @@ pub fn recheck(signature: &[u8], start: u64, size: u64, contents: &[u8], marks: 
 
 // Where the image of a whole check comes from: lent apart from its signature, or cut from a file before the signature, which the load
 // command at this position names.
-#[derive(Drop)]
+#[derive(Clone, Copy)]
 enum Origin {
     Apart,
     File(usize),

@@ -2,7 +2,7 @@
 ghost use Rattle.std.specs.Prelude.{◌≤◌, length};
 
 // Whether a file could be opened and read, and how many of its bytes are at the start of the buffer: all, or as many as have room.
-#[derive(Drop)]
+#[derive(Clone, Copy)]
 pub struct Loaded {
     pub there: bool,
     pub length: usize,

@@ -1,6 +1,8 @@
 // Document 01's small program: reads a signature, an image and a trust cache from the files that its arguments name, and prints the number
 // and the place of a whole check, or what is wrong with a file. `line_of` decides what it says; reading (`files`) and printing stand around
 // it. Its exit status is 0 whatever it prints: the language has no other.
+#![tactic(auto)]
+
 mod files;
 mod text;
 
@@ -31,7 +33,7 @@ const CACHE_ROOM: usize = CACHE_MOST + 1;
 const MARKS_ROOM: usize = SIGNATURE_MOST;
 
 // What the program says: that a file is not there, that one is too long, or the verdict.
-#[derive(Drop)]
+#[derive(Clone, Copy)]
 pub enum Line {
     NoFile,
     TooLong,

@@ -1,5 +1,7 @@
 // The runner of corpora: reads the files that the program's arguments name, one after the other, and prints a line for each case, its
 // name first. `operations` has what a case may ask for. Corpora, and what must be printed, are made by the corpus maker under host/.
+#![tactic(auto)]
+
 ghost use Rattle.std.specs.Prelude.{◌≤◌, length};
 
 mod operations;

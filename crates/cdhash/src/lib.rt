@@ -1,6 +1,8 @@
 // The hash of a code directory, cut to the 20 bytes that a trust cache lists.
 //
 // It covers the whole blob, head included, and is by the directory's own kind. What it is is specs/Hash.antt.
+#![tactic(auto)]
+
 ghost use Rattle.std.specs.Prelude.{◌≡◌};
 ghost use Rattle.layout.specs.CodeDirectory.{KnownKind, hash_type};
 ghost use Rattle.cdhash.specs.Hash.{cdhash};

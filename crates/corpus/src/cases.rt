@@ -13,7 +13,7 @@ pub const PLACES: usize = 2 * FIELDS;
 
 // A case, with its fields in the arena: its operation, whether it names the field that was asked about, where its name lies in the file,
 // and where the file goes on; 0 there where the file is not as described above.
-#[derive(Drop)]
+#[derive(Clone, Copy)]
 pub struct Case {
     pub operation: usize,
     pub named: bool,

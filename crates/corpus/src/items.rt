@@ -8,7 +8,7 @@ ghost use Rattle.std.specs.Prelude.{◌≡◌, ◌+◌, ◌<◌, ◌≤◌, leng
 const RECORD: usize = 24;
 
 // An item: how many bytes it has, and where the file goes on; 0 and 0 where the file is not as described above.
-#[derive(Drop)]
+#[derive(Clone, Copy)]
 pub struct Item {
     pub length: usize,
     pub next: usize,

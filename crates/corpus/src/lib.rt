@@ -2,6 +2,8 @@
 //
 // A file is a sequence of cases (`cases`): each has a name, an operation and fields, whose bytes are items (`items`) that are expanded
 // into one buffer, the arena. What the programs print goes through `printing`.
+#![tactic(auto)]
+
 mod cases;
 mod items;
 mod printing;

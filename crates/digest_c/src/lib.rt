@@ -1,4 +1,6 @@
 // The digest of a slice, exported for the benchmark under host/: `rt staticlib digest_c`.
+#![tactic(auto)]
+
 ghost use Rattle.std.specs.Prelude.{◌≡◌, ◌++◌, ◌-◌, replicate};
 ghost use Rattle.layout.specs.CodeDirectory.{width_of};
 ghost use Rattle.digest.specs.Kinds.{digest_of};

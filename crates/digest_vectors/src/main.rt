@@ -1,6 +1,8 @@
 // Prints, for each of the four kinds, digests of published example messages (FIPS 180-4, NIST's example values) and of every length from
 // 0 to 300 of a byte pattern, then what kinds that are not known give, and the cut of a directory hash. The expected output is made by
 // another program: tools/digest-vectors.
+#![tactic(auto)]
+
 ghost use Rattle.std.specs.Prelude.{◌≡◌, ◌≤◌, length};
 
 use layout::directory::CodeDirectory;

@@ -5,6 +5,8 @@
 // identifier does not lie inside it, where its hash kind or its page size is not known, a flag not allowed, its code limit too
 // large or its pages scattered, and where its slots are not those that its code limit asks for. The table of tests is specs/Rows.antt,
 // the head by its version specs/Head.antt, its code limit and its pages specs/Pages.antt.
+#![tactic(auto)]
+
 ghost use Rattle.std.specs.Prelude.{◌≡◌, ◌-◌, ◌*◌, ◌<◌, ◌≤◌, length};
 ghost use Rattle.refusals.specs.Refusals.{holds, first, accepted};
 ghost use Rattle.layout.specs.CodeDirectory.{slot_width, n_special_slots, n_code_slots, ident_offset, scatter_offset, code_limit64};

@@ -2,6 +2,8 @@
 //
 // Every reader is total. A byte past the slice's end counts as 0. The place is `start + field` as a whole number, which
 // never wraps: where a structure starts, and where a field lies in it.
+#![tactic(auto)]
+
 ghost use Rattle.std.specs.Prelude.{◌≡◌, ◌+◌, ◌^◌, ◌<◌, ◌≤◌, get_or};
 ghost use Rattle.endian.specs.Numbers.{big, little};
 

@@ -2,6 +2,8 @@
 //
 // A page is P bytes of the image, the last one short where the code limit ends it. No sum wraps: a range is tested against the code
 // limit by differences.
+#![tactic(auto)]
+
 ghost use Rattle.std.specs.Prelude.{◌≡◌, ◌+◌, ◌*◌, ◌<◌, ◌≤◌, ◌^◌};
 ghost use Rattle.refusals.specs.Refusals.{first, accepted};
 ghost use Rattle.geometry.specs.Pages.{page_bytes, page_count, page_end, met_first, met_end, wanted, range_rows};

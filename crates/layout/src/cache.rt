@@ -5,7 +5,7 @@ ghost use Rattle.layout.specs.TrustCache.{CacheRead, EntryRead, hash_at};
 
 use super::parts::part;
 
-#[derive(Drop)]
+#[derive(Clone, Copy)]
 pub struct CacheHead {
     pub version: usize,
     pub entries: usize,
@@ -29,7 +29,7 @@ impl CacheHead {
 }
 
 // What an entry says of its hash. The hash itself is not copied: `hash_of` lends it.
-#[derive(Drop)]
+#[derive(Clone, Copy)]
 pub struct CacheEntry {
     pub hash_type: usize,
     pub category: usize,

@@ -4,7 +4,7 @@ ghost use Rattle.std.specs.Prelude.{◌≡◌, ◌*◌, ◌<◌, ◌≤◌, ◌^
 ghost use Rattle.layout.specs.CodeDirectory.{DirectoryRead, width_of};
 
 // The fields of the head that document 01 lists, in their order. Offsets count from the directory's start.
-#[derive(Drop)]
+#[derive(Clone, Copy)]
 pub struct CodeDirectory {
     pub version: usize,
     pub flags: usize,

@@ -2,6 +2,8 @@
 //
 // The names are Apple's where it has one (xnu, cs_blobs.h and mach-o/loader.h). Constructors take any bytes: what lies past the end reads
 // as 0, and it is for the caller to test lengths. A field's offset stands once in the code, in the constructor.
+#![tactic(auto)]
+
 pub mod cache;
 pub mod directory;
 pub mod macho;

@@ -3,7 +3,7 @@
 ghost use Rattle.layout.specs.MachO.{HeaderRead, CommandRead, LinkeditRead};
 
 // The header (`mach_header_64`), of which three fields are read: the magic, the number of commands and the bytes that they take.
-#[derive(Drop)]
+#[derive(Clone, Copy)]
 pub struct MachHeader {
     pub magic: usize,
     pub ncmds: usize,
@@ -29,7 +29,7 @@ impl MachHeader {
 }
 
 // What every load command opens with (`load_command`): its type and its size, which includes these bytes.
-#[derive(Drop)]
+#[derive(Clone, Copy)]
 pub struct LoadCommand {
     pub cmd: usize,
     pub cmdsize: usize,
@@ -56,7 +56,7 @@ impl LoadCommand {
 }
 
 // A command that names a part of the file (`linkedit_data_command`), as LC_CODE_SIGNATURE does: the part's start and its length.
-#[derive(Drop)]
+#[derive(Clone, Copy)]
 pub struct LinkeditData {
     pub dataoff: usize,
     pub datasize: usize,

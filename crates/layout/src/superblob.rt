@@ -3,7 +3,7 @@
 ghost use Rattle.layout.specs.SuperBlob.{HeadRead, IndexRead, BlobRead};
 
 // The head. The length is that of the whole SuperBlob.
-#[derive(Drop)]
+#[derive(Clone, Copy)]
 pub struct SuperBlob {
     pub magic: usize,
     pub length: usize,
@@ -32,7 +32,7 @@ impl SuperBlob {
 }
 
 // An entry of the index: the slot type of a blob (`type` in Apple's header), and where the blob starts.
-#[derive(Drop)]
+#[derive(Clone, Copy)]
 pub struct BlobIndex {
     pub slot_type: usize,
     pub offset: usize,
@@ -58,7 +58,7 @@ impl BlobIndex {
 }
 
 // The head of a blob. The length includes the head.
-#[derive(Drop)]
+#[derive(Clone, Copy)]
 pub struct Blob {
     pub magic: usize,
     pub length: usize,

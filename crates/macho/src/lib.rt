@@ -4,6 +4,8 @@
 // refused where the header is cut or another, where there are too many commands or one is malformed, where there is no
 // LC_CODE_SIGNATURE, a second one or one of another size, and where the part that it names is not inside the file. Nothing else of the
 // header and of the commands is looked at. The table of tests is specs/Rows.antt.
+#![tactic(auto)]
+
 ghost use Rattle.std.specs.Prelude.{◌≡◌, ◌<◌, ◌≤◌};
 ghost use Rattle.refusals.specs.Refusals.{holds, first, accepted};
 ghost use Rattle.layout.specs.MachO.{ncmds, cmd, cmdsize};
@@ -29,7 +31,7 @@ pub fn tested(file: &[u8]) -> Answer
 }
 
 // Where the signature lies in the file, from `start` up to `end`, and the position of the command that says so.
-#[derive(Drop)]
+#[derive(Clone, Copy)]
 pub struct Span {
     pub command: usize,
     pub start: usize,
@@ -102,14 +104,14 @@ fn span_tested(file: &[u8]) -> Answer
 }
 
 // A load command: its position among the commands, and where it starts in the file.
-#[derive(Drop)]
+#[derive(Clone, Copy)]
 struct Command {
     index: usize,
     at: usize,
 }
 
 // A test of a load command. The third knows the position of the first LC_CODE_SIGNATURE.
-#[derive(Drop)]
+#[derive(Clone, Copy)]
 enum Test {
     Malformed,
     Signature,

@@ -3,6 +3,8 @@
 // The mark of a page is 0 where the digest of its bytes is what its code slot holds, and 1 where it is not. One routine hashes pages
 // and writes marks, for every hash kind: pages of SHA-256, cut or not, by fours, since four side by side take less time; what is left,
 // and pages of the other kinds, one by one.
+#![tactic(auto)]
+
 ghost use Rattle.std.specs.Prelude.{◌≡◌, List, ◌++◌, ℕ, ◌+◌, ◌-◌, ◌*◌, ◌≤◌, length, drop, replicate};
 ghost use Rattle.layout.specs.CodeDirectory.{width_of};
 ghost use Rattle.geometry.specs.Pages.{page_count, page_start, page_end, part};

@@ -2,6 +2,8 @@
 //
 // Four messages at once take about twice the time of one: `word` and `block` are written so that the compiler puts the words of the four
 // into vector registers, which every x86-64 has. The last bytes of each message, with the padding, go through `sha32`.
+#![tactic(auto)]
+
 mod block;
 mod word;
 
@@ -14,7 +16,7 @@ use block::compress_blocks;
 use sha32::Function;
 
 // The digests of four messages.
-#[derive(Drop)]
+#[derive(Clone, Copy)]
 pub struct FourDigests {
     pub a: [u8; 32],
     pub b: [u8; 32],

@@ -2,6 +2,8 @@
 //
 // `word` has the functions of one word, `load` the words of a block, `sha1` and `sha256` the compression of one block. A hash value has
 // eight words, of which SHA-1 uses five. A message may have any length that a slice can have.
+#![tactic(auto)]
+
 mod load;
 mod sha1;
 mod sha256;
@@ -17,7 +19,7 @@ pub use sha256::K256;
 pub use word::{add, choose, majority};
 
 // A hash function of words of 32 bits.
-#[derive(Drop)]
+#[derive(Clone, Copy)]
 pub enum Function {
     Sha1,
     Sha256,

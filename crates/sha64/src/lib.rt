@@ -2,6 +2,8 @@
 //
 // `word` has the functions of one word, `load` the words of a block, `block` the compression of one block. A message may have any length
 // that a slice can have.
+#![tactic(auto)]
+
 mod block;
 mod load;
 mod word;

@@ -3,6 +3,8 @@
 // Slot k holds the hash of one thing: 1 the Info.plist, 3 the CodeResources, 2, 5, 7 and 8 to 11 the blob of that type with its head; 4 and
 // 6 cover nothing. The hash is by the directory's kind. A slot that is empty while its thing is there is refused, as is a slot that is
 // filled while its thing is not. The test's definition is specs/Slots.antt, and its plain reading specs/Matches.antt.
+#![tactic(auto)]
+
 ghost use Rattle.std.specs.Prelude.{◌≡◌, ◌+◌};
 ghost use Rattle.refusals.specs.Refusals.{lowest, faulty, first, accepted};
 ghost use Rattle.digest.specs.Kinds.{digest_of};

@@ -4,6 +4,8 @@
 // do not fit the lent bytes, where a type is unknown or stands twice, and where a blob lies outside, has not its
 // type's magic, or shares a byte with an earlier one. Lent bytes behind it are padding. A blob that is found is a part
 // of the lent signature, not a copy. The table of tests is specs/Rows.antt.
+#![tactic(auto)]
+
 ghost use Rattle.std.specs.Prelude.{◌≡◌, ◌<◌};
 ghost use Rattle.refusals.specs.Refusals.{holds, lowest, first, accepted};
 ghost use Rattle.layout.specs.SuperBlob.{index_end, type_at, offset_at, blob_magic, blob_length, count};
@@ -36,7 +38,7 @@ pub fn tested(sig: &[u8], side: usize) -> Answer
 }
 
 // Where a blob lies in the signature: from `start` up to `end`.
-#[derive(Drop)]
+#[derive(Clone, Copy)]
 pub struct Span {
     pub start: usize,
     pub end: usize,
@@ -153,7 +155,7 @@ fn index_tested(sig: &[u8]) -> Answer
 }
 
 // A test over the positions of the index.
-#[derive(Drop)]
+#[derive(Clone, Copy)]
 enum Test {
     Known,
     Distinct,
@@ -190,7 +192,7 @@ fn fails_at(sig: &[u8], i: usize, test: Test) -> bool
 }
 
 // What two positions of the index may not share.
-#[derive(Drop)]
+#[derive(Clone, Copy)]
 enum Clash {
     SlotType,
     Bytes,

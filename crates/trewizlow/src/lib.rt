@@ -1,4 +1,6 @@
 // The C interface, include/trewizlow.h: thin functions over the crates that do the work. Each takes any bytes and any numbers.
+#![tactic(auto)]
+
 ghost use Rattle.std.specs.Prelude.{◌≡◌};
 ghost use Rattle.layout.specs.CodeDirectory.{directory_type};
 ghost use Rattle.superblob.specs.Rows.{start_of};
@@ -44,7 +46,7 @@ pub extern "C" fn trewizlow_check(
 
 // Where the signature lies in a Mach-O file: the answer of tests 36 to 40, and its part of the file, 0 and 0 where one of them refuses.
 #[repr(C)]
-#[derive(Drop)]
+#[derive(Clone, Copy)]
 pub struct FileSignature {
     pub number: u32,
     pub place: usize,
@@ -108,7 +110,7 @@ pub extern "C" fn trewizlow_recheck(
 
 // What a lookup finds: the answer of tests 1 to 9, and where the blob lies, 0 and 0 where nothing is handed back.
 #[repr(C)]
-#[derive(Drop)]
+#[derive(Clone, Copy)]
 pub struct BlobPart {
     pub number: u32,
     pub place: usize,
@@ -132,7 +134,7 @@ pub extern "C" fn trewizlow_find(signature: &[u8], slot_type: u32) -> BlobPart
 
 // The directory of a signature: the answer of tests 1 to 18, and its fields, each 0 where one of them refuses.
 #[repr(C)]
-#[derive(Drop)]
+#[derive(Clone, Copy)]
 pub struct DirectoryFields {
     pub number: u32,
     pub place: usize,
@@ -232,7 +234,7 @@ fn fields(answer: Answer, signature: &[u8]) -> DirectoryFields
 
 // The directory's hash cut to 20 bytes: the answer of tests 1 to 18, and the hash, zeros where one of them refuses.
 #[repr(C)]
-#[derive(Drop)]
+#[derive(Clone, Copy)]
 pub struct DirectoryHash {
     pub number: u32,
     pub place: usize,

@@ -15,7 +15,7 @@ const VALIDATION_CATEGORY: u8 = 1;
 
 // The facts of a launch.
 #[repr(C)]
-#[derive(Drop)]
+#[derive(Clone, Copy)]
 pub struct Launch {
     pub on_authorized_volume: bool,
     pub on_system_volume: bool,

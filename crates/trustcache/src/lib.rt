@@ -3,6 +3,8 @@
 // A cache lists the directories that are admitted, by the first 20 bytes of their hashes, in strictly increasing order; an entry names
 // the constraint category that the launch has to meet. `entries` has the cache's form and order, 24 and 25, and `search` the lookup, 26
 // to 28; `launch` has the constraints, 29 and 30. Nothing is asked of the lent bytes: a byte past the end reads as 0.
+#![tactic(auto)]
+
 mod entries;
 mod launch;
 mod search;
