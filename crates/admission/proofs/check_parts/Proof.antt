@@ -17,7 +17,7 @@ blob-of-requires : tie.Need-blob-of-requires
 blob-of-requires c κs = search rules
 
 write-marks-requires : tie.Need-write-marks-requires
-write-marks-requires c κs = image_here _ _ _ _ c.before.before.before.before.parts-tested.ensures c.before.before.if1.false _ c.before.of_blob.ensures
+write-marks-requires c κs = image_here _ _ _ _ c.before.before.before.before.parts-tested.ensures c.before.before.if1.false _ c.before.blob_of.ensures
 
 judge-requires : tie.Need-judge-requires
 judge-requires c κs = search rules
@@ -29,7 +29,7 @@ same_length : tie.Need-same-length
 same_length c = search rules
 
 returns-2 : tie.Need-returns-2
-returns-2 c = parts_judged _ _ _ _ c.before.before.before.before.before.before.before.before.before.before.parts-tested.ensures c.before.before.before.before.before.before.before.before.if1.false _ c.before.before.before.before.before.before.before.of_blob.ensures _ c.before.before.before.before.before.write-marks.ensures _ c.before.judge.ensures _ c.verdict-of2.ensures
+returns-2 c = parts_judged _ _ _ _ c.before.before.before.before.before.before.before.before.before.before.parts-tested.ensures c.before.before.before.before.before.before.before.before.if1.false _ c.before.before.before.before.before.before.before.blob_of.ensures _ c.before.before.before.before.before.write-marks.ensures _ c.before.judge.ensures _ c.verdict-of2.ensures
 
 pub check-parts-spec : {M : Type 1} → statement M
 check-parts-spec =

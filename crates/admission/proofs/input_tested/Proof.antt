@@ -13,7 +13,7 @@ range-tested-requires : tie.Need-range-tested-requires
 range-tested-requires c κs = search rules
 
 returns : tie.Need-returns
-returns c = rw (← c.before.before.page_size_known.ensures, ← c.before.code-limit.ensures) c.range-tested.ensures
+returns c = rw (← c.before.before.page_size.ensures, ← c.before.code-limit.ensures) c.range-tested.ensures
 
 pub input-tested-spec : {M : Type 1} → statement M
 input-tested-spec =

@@ -34,15 +34,15 @@ image-tested-requires c κs = search rules
 
 -- src/lib.rt:213:9
 returns-2 : tie.Need-returns-2
-returns-2 c = reached_stops _ _ _ _ _ c.before.before.before.before.before.before.before.longest-side.ensures _ c.before.before.before.before.before.before.tested.ensures c.before.before.before.before.if1.false _ c.before.before.before.of_blob.ensures _ c.before.before.image-tested.ensures c.if2.true
+returns-2 c = reached_stops _ _ _ _ _ c.before.before.before.before.before.before.before.longest-side.ensures _ c.before.before.before.before.before.before.tested.ensures c.before.before.before.before.if1.false _ c.before.before.before.blob_of.ensures _ c.before.before.image-tested.ensures c.if2.true
 
 -- src/lib.rt:215:5
 later-tested-requires : tie.Need-later-tested-requires
-later-tested-requires c κs = kind_known _ _ _ _ c.before.before.before.before.before.before.tested.ensures c.before.before.before.before.if1.false c.before.before.before.of_blob.ensures
+later-tested-requires c κs = kind_known _ _ _ _ c.before.before.before.before.before.before.tested.ensures c.before.before.before.before.if1.false c.before.before.before.blob_of.ensures
 
 -- src/lib.rt:191:1
 returns-3 : tie.Need-returns-3
-returns-3 c = reached_goes _ _ _ _ _ c.before.before.before.before.before.before.before.before.longest-side.ensures _ c.before.before.before.before.before.before.before.tested.ensures c.before.before.before.before.before.if1.false _ c.before.before.before.before.of_blob.ensures _ c.before.before.before.image-tested.ensures c.before.if2.false _ c.later-tested.ensures
+returns-3 c = reached_goes _ _ _ _ _ c.before.before.before.before.before.before.before.before.longest-side.ensures _ c.before.before.before.before.before.before.before.tested.ensures c.before.before.before.before.before.if1.false _ c.before.before.before.before.blob_of.ensures _ c.before.before.before.image-tested.ensures c.before.if2.false _ c.later-tested.ensures
 
 pub parts-tested-spec : {M : Type 1} → statement M
 parts-tested-spec =

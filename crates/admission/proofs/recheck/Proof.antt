@@ -17,7 +17,7 @@ blob-of-requires : tie.Need-blob-of-requires
 blob-of-requires c κs = search rules
 
 rewrite-marks-requires : tie.Need-rewrite-marks-requires
-rewrite-marks-requires c κs = range_here _ _ _ _ _ _ c.before.before.before.before.recheck-tested.ensures c.before.before.if1.false _ c.before.of_blob.ensures
+rewrite-marks-requires c κs = range_here _ _ _ _ _ _ c.before.before.before.before.recheck-tested.ensures c.before.before.if1.false _ c.before.blob_of.ensures
 
 judge-requires : tie.Need-judge-requires
 judge-requires c κs = search rules
@@ -26,7 +26,7 @@ same-length-2 : tie.Need-same-length-2
 same-length-2 c = search rules
 
 returns-2 : tie.Need-returns-2
-returns-2 c = recheck_judged _ _ _ _ _ _ c.before.before.before.before.before.before.before.before.before.recheck-tested.ensures c.before.before.before.before.before.before.before.if1.false _ c.before.before.before.before.before.before.of_blob.ensures _ c.before.before.before.before.rewrite-marks.ensures _ c.judge.ensures
+returns-2 c = recheck_judged _ _ _ _ _ _ c.before.before.before.before.before.before.before.before.before.recheck-tested.ensures c.before.before.before.before.before.before.before.if1.false _ c.before.before.before.before.before.before.blob_of.ensures _ c.before.before.before.before.rewrite-marks.ensures _ c.judge.ensures
 
 pub recheck-spec : {M : Type 1} → statement M
 recheck-spec =

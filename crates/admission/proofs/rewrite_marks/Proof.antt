@@ -8,7 +8,7 @@ use Rattle.admission.proofs.rewrite_marks.Tie as tie
 
 inside : (c : tie.After-code-slots) → Inside c.before.before.before.first-met.result c.before.before.end-met.result (length c.before.before.before.before.before.before.before.before.before.args.marks.now)
 inside c =
-    met_inside _ _ _ _ _ c.before.before.before.before.before.page_size_known.ensures c.before.before.before.before.code-limit.ensures c.before.read.ensures.hash_type_is c.code_slots_are.ensures _ _ _ _ c.before.before.before.before.before.before.before.before.before.requires _ _ c.before.before.before.first-met.ensures c.before.before.end-met.ensures
+    met_inside _ _ _ _ _ c.before.before.before.before.before.page_size.ensures c.before.before.before.before.code-limit.ensures c.before.read.ensures.hash_type_is c.code_slots.ensures _ _ _ _ c.before.before.before.before.before.before.before.before.before.requires _ _ c.before.before.before.first-met.ensures c.before.before.end-met.ensures
 
 page-size-requires : tie.Need-page-size-requires
 page-size-requires c κs = search rules
@@ -39,14 +39,14 @@ part-mark-pages-end c = let m = inside c in omega arith
 
 mark-pages-requires : tie.Need-mark-pages-requires
 mark-pages-requires c κs =
-    met_here _ _ _ _ _ c.before.before.before.before.before.before.page_size_known.ensures c.before.before.before.before.before.code-limit.ensures c.before.before.read.ensures.hash_type_is c.before.code_slots_are.ensures _ _ _ _ c.before.before.before.before.before.before.before.before.before.before.requires _ _ c.before.before.before.before.first-met.ensures c.before.before.before.end-met.ensures
+    met_here _ _ _ _ _ c.before.before.before.before.before.before.page_size.ensures c.before.before.before.before.before.code-limit.ensures c.before.before.read.ensures.hash_type_is c.before.code_slots.ensures _ _ _ _ c.before.before.before.before.before.before.before.before.before.before.requires _ _ c.before.before.before.before.first-met.ensures c.before.before.before.end-met.ensures
 
 same_length : tie.Need-same-length
 same_length c = search rules
 
 returns : tie.Need-returns
 returns c =
-    met_marked _ _ _ _ _ c.before.before.before.before.before.before.before.before.before.page_size_known.ensures c.before.before.before.before.before.before.before.before.code-limit.ensures c.before.before.before.before.before.read.ensures.hash_type_is c.before.before.before.before.code_slots_are.ensures _ _ _ _ c.before.before.before.before.before.before.before.before.before.before.before.before.before.requires _ _ c.before.before.before.before.before.before.before.first-met.ensures c.before.before.before.before.before.before.end-met.ensures _ c.before.before.mark-pages.ensures
+    met_marked _ _ _ _ _ c.before.before.before.before.before.before.before.before.before.page_size.ensures c.before.before.before.before.before.before.before.before.code-limit.ensures c.before.before.before.before.before.read.ensures.hash_type_is c.before.before.before.before.code_slots.ensures _ _ _ _ c.before.before.before.before.before.before.before.before.before.before.before.before.before.requires _ _ c.before.before.before.before.before.before.before.first-met.ensures c.before.before.before.before.before.before.end-met.ensures _ c.before.before.mark-pages.ensures
 
 pub rewrite-marks-spec : {M : Type 1} → statement M
 rewrite-marks-spec =

@@ -18,14 +18,14 @@ code-slots-requires c κs = search rules
 
 mark-pages-requires : tie.Need-mark-pages-requires
 mark-pages-requires c κs =
-    all_here _ _ _ _ _ c.before.before.before.before.page_size_known.ensures c.before.before.before.code-limit.ensures c.before.before.read.ensures.hash_type_is c.before.code_slots_are.ensures _ _ c.before.before.before.before.before.before.before.before.requires
+    all_here _ _ _ _ _ c.before.before.before.before.page_size.ensures c.before.before.before.code-limit.ensures c.before.before.read.ensures.hash_type_is c.before.code_slots.ensures _ _ c.before.before.before.before.before.before.before.before.requires
 
 same_length : tie.Need-same-length
 same_length c = search rules
 
 returns : tie.Need-returns
 returns c =
-    all_marked _ _ _ _ _ c.before.before.before.before.before.before.before.page_size_known.ensures c.before.before.before.before.before.before.code-limit.ensures c.before.before.before.before.before.read.ensures.hash_type_is c.before.before.before.before.code_slots_are.ensures _ _ c.before.before.before.before.before.before.before.before.before.before.before.requires _ c.before.before.mark-pages.ensures
+    all_marked _ _ _ _ _ c.before.before.before.before.before.before.before.page_size.ensures c.before.before.before.before.before.before.code-limit.ensures c.before.before.before.before.before.read.ensures.hash_type_is c.before.before.before.before.code_slots.ensures _ _ c.before.before.before.before.before.before.before.before.before.before.before.requires _ c.before.before.mark-pages.ensures
 
 pub write-marks-spec : {M : Type 1} → statement M
 write-marks-spec =

@@ -20,7 +20,7 @@ read-requires : tie.Need-read-requires
 read-requires c κs = search rules
 
 returns-2 : tie.Need-returns-2
-returns-2 c = wanted_some _ _ c.before.before.before.before.tested.ensures _ (c.read.ensures.n_code_slots_is ∙ ap n_code_slots c.before.of_blob.ensures) (omega arith)
+returns-2 c = wanted_some _ _ c.before.before.before.before.tested.ensures _ (c.read.ensures.n_code_slots_is ∙ ap n_code_slots c.before.blob_of.ensures) (omega arith)
 
 pub marks-wanted-spec : {M : Type 1} → statement M
 marks-wanted-spec =

@@ -75,7 +75,7 @@ returns c = λ ne.
     let a = b.args in
     let s = slots_of_kind a.kind a.slots.now in
     tab_four a.n (mark_in a.p a.limit s a.from a.bytes.now)
-    (page_mark a.p a.limit s a.from a.bytes.now _ _ a.n _ _ _ c.before.before.before.mark_of_agrees.ensures x.digest-four.ensures.0 q.before.before.before.before.page-bytes.ensures (omega arith) (omega arith))
+    (page_mark a.p a.limit s a.from a.bytes.now _ _ a.n _ _ _ c.before.before.before.mark_of.ensures x.digest-four.ensures.0 q.before.before.before.before.page-bytes.ensures (omega arith) (omega arith))
     (page_mark a.p a.limit s a.from a.bytes.now _ _ (a.n + 1) _ _ _ c.before.before.mark-of2.ensures x.digest-four.ensures.1 q.before.before.before.page-bytes2.ensures (omega arith) (omega arith))
     (page_mark a.p a.limit s a.from a.bytes.now _ _ (a.n + 2) _ _ _ c.before.mark-of3.ensures x.digest-four.ensures.2 q.before.before.page-bytes3.ensures (omega arith) (omega arith))
     (page_mark a.p a.limit s a.from a.bytes.now _ _ (a.n + 3) _ _ _ c.mark-of4.ensures x.digest-four.ensures.3 q.before.page-bytes4.ensures (omega arith) (omega arith))

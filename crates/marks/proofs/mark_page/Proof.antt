@@ -18,7 +18,7 @@ mark-of-requires c κs = slot_before _ _ _ _ c.before.before.before.before.requi
 returns : tie.Need-returns
 returns c =
     let a = c.before.before.before.before.before.args in
-    page_mark a.p a.limit (slots_of_kind a.kind a.slots.now) a.from a.bytes.now _ _ a.n _ _ _ c.mark_of_agrees.ensures c.before.digest.ensures c.before.before.page-bytes.ensures (omega arith) (omega arith)
+    page_mark a.p a.limit (slots_of_kind a.kind a.slots.now) a.from a.bytes.now _ _ a.n _ _ _ c.mark_of.ensures c.before.digest.ensures c.before.before.page-bytes.ensures (omega arith) (omega arith)
 
 pub mark-page-spec : {M : Type 1} → statement M
 mark-page-spec = tie.close (tie.spec page-bytes-requires digest-requires mark-of-requires returns)

@@ -58,7 +58,7 @@ returns : tie.Need-returns
 returns c =
     let b = c.before.before.before.before.before.before.before.before.before.before in
     let h = b.read.ensures in
-    let f = b.before.before.before.before.of_blob in
+    let f = b.before.before.before.before.blob_of in
     let a = b.before.before.before.before.before.before.before.args.answer in
     (λ i.
     record {
@@ -77,7 +77,7 @@ returns c =
       platform = h.platform_is i;
       page_shift = h.page_size_is i;
       code_limit = b.before.before.before.code-limit.ensures i;
-      page_size = b.before.before.page_size_known.ensures i;
+      page_size = b.before.before.page_size.ensures i;
       ident_length = b.before.ident-length.ensures i;
     })
     ∙ ap (fields_of a _) f.ensures

@@ -19,11 +19,11 @@ blob-of-requires : tie.Need-blob-of-requires
 blob-of-requires c κs = search rules
 
 cdhash-requires : tie.Need-cdhash-requires
-cdhash-requires c κs = kind_known _ _ _ _ c.before.before.before.tested.ensures (omega arith) c.of_blob.ensures
+cdhash-requires c κs = kind_known _ _ _ _ c.before.before.before.tested.ensures (omega arith) c.blob_of.ensures
 
 returns-2 : tie.Need-returns-2
 returns-2 c =
-    ap (hash_with _) (c.cdhash.ensures ∙ ap cdhash c.before.of_blob.ensures)
+    ap (hash_with _) (c.cdhash.ensures ∙ ap cdhash c.before.blob_of.ensures)
     ∙ hash_read _ _ c.before.before.before.before.tested.ensures (omega arith)
 
 pub trewizlow-cdhash-spec : {M : Type 1} → statement M

@@ -11,8 +11,7 @@ use Rattle.layout.specs.CodeDirectory.{hash_type, hash_size, slot_width}
 use Rattle.layout.proofs.Widths.{no_width, some_width}
 use Rattle.directory.specs.Rows.{hash_outside}
 use borrow.Author.Rules.{rules}
-use Rattle.directory.proofs.hash_outside.Statement.{statement}
-use Rattle.directory.proofs.hash_outside.Tie as tie
+use Rattle.directory.proofs.hash_outside.Goals as goal
 
 module _ (d : List ℕ) (size width : ℕ) (s : size ≡ hash_size d) (w : width ≡ slot_width d) where
   kind-outside : width ≡ 0 → true ≡ holds (hash_outside d)
@@ -30,20 +29,11 @@ module _ (d : List ℕ) (size width : ℕ) (s : size ≡ hash_size d) (w : width
   unfolding hash_outside slot_width
   inside n e = says false (hash_outside d) (some_width (hash_type d) (λ z. n (w ∙ z)), sym s ∙ e ∙ w)
 
-read-requires : tie.Need-read-requires
-read-requires c κs = search rules
+pub returns-then-width-eq0 : goal.returns-then-width-eq0
+returns-then-width-eq0 c = kind-outside _ _ _ c.read-head.ensures.hash_size_is c.slot_width-width.ensures.0 (omega arith)
 
-slot-width-requires : tie.Need-slot-width-requires
-slot-width-requires c κs = search rules
+pub returns-then-head-width : goal.returns-then-head-width
+returns-then-head-width c = size-outside _ _ _ c.read-head.ensures.hash_size_is c.slot_width-width.ensures.0 (omega arith)
 
-returns : tie.Need-returns
-returns c = kind-outside _ _ _ c.before.before.read.ensures.hash_size_is c.before.slot-width.ensures.0 (omega arith)
-
-returns-2 : tie.Need-returns-2
-returns-2 c = size-outside _ _ _ c.before.before.before.before.read.ensures.hash_size_is c.before.before.before.slot-width.ensures.0 (omega arith)
-
-returns-3 : tie.Need-returns-3
-returns-3 c = inside _ _ _ c.before.before.before.before.read.ensures.hash_size_is c.before.before.before.slot-width.ensures.0 (omega arith) (omega arith)
-
-pub hash-outside-spec : {M : Type 1} → statement M
-hash-outside-spec = tie.close (tie.spec read-requires slot-width-requires returns returns-2 returns-3)
+pub returns : goal.returns
+returns c = inside _ _ _ c.read-head.ensures.hash_size_is c.slot_width-width.ensures.0 (omega arith) (omega arith)

@@ -1,0 +1,13 @@
+-- As many slots as the field states.
+use Prim.Native.Nat.{ℕ, ◌*◌}
+use mathlib.Core.Path.{◌∙◌, ap}
+use Rattle.layout.specs.CodeDirectory.{slot_width}
+use borrow.Author.Rules.{rules}
+use Rattle.directory.proofs.code_bytes.Goals as goal
+
+pub returns : goal.returns
+returns c = (
+  c.slot_bytes.ensures.0
+      ∙ ap (λ (n : ℕ). slot_width c.args.d.now * n) c.read.ensures.n_code_slots_is,
+  c.slot_bytes.ensures.1,
+)

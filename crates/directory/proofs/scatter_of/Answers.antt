@@ -1,0 +1,11 @@
+-- By the version.
+use native.Mathlib.Omega.{arith}
+use Rattle.directory.proofs.Since.{since_older, since_has}
+use borrow.Author.Rules.{rules}
+use Rattle.directory.proofs.scatter_of.Goals as goal
+
+pub returns-then-head-lt-SCATTER_VERSION : goal.returns-then-head-lt-SCATTER_VERSION
+returns-then-head-lt-SCATTER_VERSION c = since_older _ _ _ (omega arith)
+
+pub returns : goal.returns
+returns c = since_has _ _ _ _ (omega arith) (cc)
