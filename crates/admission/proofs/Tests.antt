@@ -2,14 +2,16 @@
 use Prim.Native.Nat.{ℕ, ◌<◌, ◌≤◌}
 use mathlib.Core.Bool.{cond}
 use mathlib.Core.List.{List, ◌++◌}
-use mathlib.Core.Path.{◌≡◌, sym, ap, ap₂, ◌∙◌}
+use mathlib.Core.Path.{◌≡◌, refl, sym, ap, ap₂, ◌∙◌}
+use native.Mathlib.Omega.{arith}
+use Rattle.std.proofs.Common.{append_assoc}
 use lib.ListN.{length}
 use Rattle.refusals.specs.declared.Answer.{Answer}
-use Rattle.refusals.specs.Refusals.{refuse, accepted, first}
+use Rattle.refusals.specs.Refusals.{Row, refuse, accepted, first}
 use Rattle.refusals.proofs.Conditions.{pick_yes, pick_no}
 use Rattle.refusals.proofs.Exact.{Unused, decides, passes}
-use Rattle.refusals.proofs.Joined.{stops, goes}
-use Rattle.layout.specs.CodeDirectory.{hash_type}
+use Rattle.refusals.proofs.Joined.{stops, goes, goes_on}
+use Rattle.layout.specs.CodeDirectory.{hash_type, n_code_slots}
 use Rattle.directory.specs.Pages.{code_limit, P}
 use Rattle.directory.specs.Rows.{directory, signature_rows}
 use Rattle.cdhash.specs.Hash.{cdhash}
@@ -43,49 +45,57 @@ count_unused : (d : List ℕ) (marks : ℕ) → Unused (count_rows d marks) 0
 unfolding count_rows
 count_unused d marks = tt
 
-origin_unused : (o : Origin) (d : List ℕ) (image : ℕ) → Unused (origin_rows o d image) 0
-unfolding image_rows start_rows
-origin_unused origin.Apart d image = tt
-origin_unused (origin.File command) d image = tt
+sized_unused : (o : Origin) (d : List ℕ) (image marks : ℕ) → Unused (origin_rows o d image ++ count_rows d marks) 0
+unfolding image_rows start_rows count_rows
+sized_unused origin.Apart d image marks = tt
+sized_unused (origin.File command) d image marks = tt
 
 special_unused : (s d : List ℕ) (x : Sides) → Unused (special_rows s d x) 0
 unfolding special_rows
 special_unused s d x = tt
 
--- 19 OR 41, by where the image comes from
+-- 19 OR 41, AND 20, of a directory d, by a field n that was read
 
-pub origin_apart : (o : Origin) (d : List ℕ) (image : ℕ) (a : Answer) → o ≡ origin.Apart → a ≡ first (image_rows d image) accepted
-    → a ≡ first (origin_rows o d image) accepted
-origin_apart o d image a e h = h ∙ ap (λ (o : Origin). first (origin_rows o d image) accepted) (sym e)
+module _ (d : List ℕ) (image marks n : ℕ) where
+  pub image_long : (a : Answer) → n ≡ code_limit d → n ≤ image → a ≡ first (count_rows d marks) accepted → a ≡ first (image_rows d image ++ count_rows d marks) accepted
+  unfolding image_rows
+  image_long a f h q = goes_on (image_rows d image) (count_rows d marks) accepted a (omega arith, tt) q
 
-pub origin_file : (o : Origin) (d : List ℕ) (image : ℕ) (a : Answer) (command : ℕ) → o ≡ origin.File command → a ≡ first (start_rows d image command) accepted
-    → a ≡ first (origin_rows o d image) accepted
-origin_file o d image a command e h = h ∙ ap (λ (o : Origin). first (origin_rows o d image) accepted) (sym e)
+  pub count_differs : n ≡ n_code_slots d → (marks ≡ n → ⊥) → refuse 20 0 ≡ first (count_rows d marks) accepted
+  unfolding count_rows
+  count_differs f ne = decides _ accepted 20 0 (λ q. ne (q ∙ sym f), refl)
 
--- 20 TO 30, of a directory d
+  pub count_agrees : n ≡ n_code_slots d → marks ≡ n → accepted ≡ first (count_rows d marks) accepted
+  unfolding count_rows
+  count_agrees f q = passes _ accepted (q ∙ f, tt)
 
-module _ (x : Beside) (d : List ℕ) (marks : ℕ) (counted : Answer) (f : counted ≡ first (count_rows d marks) accepted) where
-  pub counted_first : (counted.number ≡ 0 → ⊥) → counted ≡ later_tested x d marks
-  unfolding later_rows
-  counted_first ne = stops (count_rows d marks) _ _ counted f ne
+pub starts_there : (d : List ℕ) (start command marks n : ℕ) (a : Answer) → n ≡ code_limit d → start ≡ n → a ≡ first (count_rows d marks) accepted
+    → a ≡ first (start_rows d start command ++ count_rows d marks) accepted
+unfolding start_rows
+starts_there d start command marks n a f h q = goes_on (start_rows d start command) (count_rows d marks) accepted a (h ∙ f, tt) q
 
-  module _ (y : counted.number ≡ 0) (matched : Answer) (g : matched ≡ first (special_rows x.signature d x.sides) accepted) where
-    counted_on : (a : Answer)
-        → a ≡ first (special_rows x.signature d x.sides ++ cache_rows x.cache (hash_type d) (cdhash d) x.facts) (refuse 0 (entry_of x.cache (cdhash d)))
-        → a ≡ later_tested x d marks
-    unfolding later_rows
-    counted_on a h = goes (count_rows d marks) _ _ counted a (count_unused d marks) f y h
+-- by where the image comes from
 
-    pub matched_stops : (matched.number ≡ 0 → ⊥) → matched ≡ later_tested x d marks
-    matched_stops ne = counted_on matched (stops (special_rows x.signature d x.sides) _ _ matched g ne)
+pub origin_apart : (o : Origin) (d : List ℕ) (image marks : ℕ) (a : Answer) → o ≡ origin.Apart
+    → a ≡ first (image_rows d image ++ count_rows d marks) accepted → a ≡ first (origin_rows o d image ++ count_rows d marks) accepted
+origin_apart o d image marks a e h = h ∙ ap (λ (o : Origin). first (origin_rows o d image ++ count_rows d marks) accepted) (sym e)
 
-    -- the cache decides, by the kind that was read and the hash that was cut
-    pub matched_goes : matched.number ≡ 0 → (a : Answer) (kind : ℕ) (hash : List ℕ) → kind ≡ hash_type d → hash ≡ cdhash d
-        → a ≡ cache_answer x.cache kind hash x.facts → a ≡ later_tested x d marks
-    matched_goes w a kind hash t l h =
-        counted_on a
-        (goes (special_rows x.signature d x.sides) _ _ matched a (special_unused x.signature d x.sides) g w
-        (h ∙ ap₂ (λ (n : ℕ) (b : List ℕ). cache_answer x.cache n b x.facts) t l))
+pub origin_file : (o : Origin) (d : List ℕ) (image marks : ℕ) (a : Answer) (command : ℕ) → o ≡ origin.File command
+    → a ≡ first (start_rows d image command ++ count_rows d marks) accepted → a ≡ first (origin_rows o d image ++ count_rows d marks) accepted
+origin_file o d image marks a command e h = h ∙ ap (λ (o : Origin). first (origin_rows o d image ++ count_rows d marks) accepted) (sym e)
+
+-- 21 TO 30, of a directory d
+
+module _ (x : Beside) (d : List ℕ) (matched : Answer) (g : matched ≡ first (special_rows x.signature d x.sides) accepted) where
+  pub matched_stops : (matched.number ≡ 0 → ⊥) → matched ≡ later_tested x d
+  matched_stops ne = stops (special_rows x.signature d x.sides) _ _ matched g ne
+
+  -- the cache decides, by the kind that was read and the hash that was cut
+  pub matched_goes : matched.number ≡ 0 → (a : Answer) (kind : ℕ) (hash : List ℕ) → kind ≡ hash_type d → hash ≡ cdhash d
+      → a ≡ cache_answer x.cache kind hash x.facts → a ≡ later_tested x d
+  matched_goes w a kind hash t l h =
+      goes (special_rows x.signature d x.sides) _ _ matched a (special_unused x.signature d x.sides) g w
+      (h ∙ ap₂ (λ (n : ℕ) (b : List ℕ). cache_answer x.cache n b x.facts) t l)
 
 -- 1 TO 30, with 19 or 41
 
@@ -100,18 +110,20 @@ module _ (o : Origin) (x : Beside) (image marks side : ℕ) (q : side ≡ longes
 
   -- of the directory d that was found
   module _ (z : formed.number ≡ 0) (d : List ℕ) (k : d ≡ directory x.signature)
-      (reached : Answer) (f : reached ≡ first (origin_rows o d image) accepted) where
-    formed_goes : (a : Answer) → a ≡ first (origin_rows o d image ++ later_rows x d marks) (refuse 0 (entry_of x.cache (cdhash d)))
+      (sized : Answer) (f : sized ≡ first (origin_rows o d image ++ count_rows d marks) accepted) where
+    formed_goes : (a : Answer)
+        → a ≡ first (origin_rows o d image ++ count_rows d marks ++ (special_rows x.signature d x.sides ++ cache_rows x.cache (hash_type d) (cdhash d) x.facts)) (refuse 0 (entry_of x.cache (cdhash d)))
         → a ≡ parts_tested o x image marks
-    unfolding parts_rows entry_for
+    unfolding parts_rows later_rows entry_for
     formed_goes a g =
-        goes (signature_rows (longest x.sides) x.signature) _ _ formed a (signature_rows_unused (longest x.sides) x.signature) formed_is z (rw (← k) g)
+        let h = g ∙ ap (λ (l : List Row). first l (refuse 0 (entry_of x.cache (cdhash d)))) (append_assoc (origin_rows o d image) (count_rows d marks) _) in
+        goes (signature_rows (longest x.sides) x.signature) _ _ formed a (signature_rows_unused (longest x.sides) x.signature) formed_is z (rw (← k) h)
 
-    pub reached_stops : (reached.number ≡ 0 → ⊥) → reached ≡ parts_tested o x image marks
-    reached_stops ne = formed_goes reached (stops (origin_rows o d image) _ _ reached f ne)
+    pub sized_stops : (sized.number ≡ 0 → ⊥) → sized ≡ parts_tested o x image marks
+    sized_stops ne = formed_goes sized (stops (origin_rows o d image ++ count_rows d marks) _ _ sized f ne)
 
-    pub reached_goes : reached.number ≡ 0 → (a : Answer) → a ≡ later_tested x d marks → a ≡ parts_tested o x image marks
-    reached_goes y a h = formed_goes a (goes (origin_rows o d image) _ _ reached a (origin_unused o d image) f y h)
+    pub sized_goes : sized.number ≡ 0 → (a : Answer) → a ≡ later_tested x d → a ≡ parts_tested o x image marks
+    sized_goes y a h = formed_goes a (goes (origin_rows o d image ++ count_rows d marks) _ _ sized a (sized_unused o d image marks) f y h)
 
 -- 1 TO 18, 20, 32, 33 AND 34, in the recheck
 

@@ -2,9 +2,12 @@
 use Rattle.std.specs.Prelude.{ℕ, cond, List, ◌++◌, ◌≡◌, length}
 use Rattle.refusals.specs.declared.Answer.{Answer}
 use Rattle.refusals.specs.Refusals.{◌≡?◌, holds, Row, refuse, accepted, first}
+use Rattle.layout.specs.CodeDirectory.{hash_type}
 use Rattle.directory.specs.Rows.{directory, signature_rows}
+use Rattle.slots.specs.Slots.{special_rows}
 use Rattle.cdhash.specs.Hash.{cdhash}
 use Rattle.trustcache.specs.Rows.{entry_of}
+use Rattle.trustcache.specs.Table.{cache_rows}
 use Rattle.marks.specs.Marks.{bad_rows}
 use Rattle.admission.specs.declared.Verdict.{Verdict}
 use Rattle.admission.specs.declared.Origin.{Origin}
@@ -18,9 +21,10 @@ abbrev pub origin_rows : Origin → List ℕ → ℕ → List Row
 origin_rows origin.Apart d image_length = image_rows d image_length
 origin_rows (origin.File command) d image_length = start_rows d image_length command
 
--- 20 to 30, with the entry of the cache where they pass
-abbrev pub later_tested : Beside → List ℕ → ℕ → Answer
-later_tested x d marksLength = first (later_rows x d marksLength) (refuse 0 (entry_of x.cache (cdhash d)))
+-- 21 to 30, with the entry of the cache where they pass
+abbrev pub later_tested : Beside → List ℕ → Answer
+later_tested x d =
+    first (special_rows x.signature d x.sides ++ cache_rows x.cache (hash_type d) (cdhash d) x.facts) (refuse 0 (entry_of x.cache (cdhash d)))
 
 -- 1 to 18, 19 or 41, and 20 to 30
 unfoldable pub parts_rows : Origin → Beside → ℕ → ℕ → List Row

@@ -211,14 +211,13 @@ fn parts_tested(
         return formed;
     }
     let d = superblob::blob_of(signature, CodeDirectory::TYPE);
-    let reached = image_tested(d, image_length, origin);
-    if reached.number != 0 {
-        return reached;
+    let sized = origin_tested(d, image_length, origin, marks_length);
+    if sized.number != 0 {
+        return sized;
     }
     later_tested(
         signature,
         d,
-        marks_length,
         cache,
         info_there,
         info,
@@ -228,11 +227,10 @@ fn parts_tested(
     )
 }
 
-// Tests 20 to 30 of a signature with the directory d.
+// Tests 21 to 30 of a signature with the directory d.
 fn later_tested(
     signature: &[u8],
     d: &[u8],
-    marks_length: usize,
     cache: &[u8],
     info_there: bool,
     info: &[u8],
@@ -241,12 +239,8 @@ fn later_tested(
     launch: Launch,
 ) -> Answer
     requires { KnownKind (hash_type d.now) }
-    ensures { result ≡ later_tested (besides signature.now cache.now info_there info.now resources_there resources.now launch) d.now marks_length }
+    ensures { result ≡ later_tested (besides signature.now cache.now info_there info.now resources_there resources.now launch) d.now }
 {
-    let sized = count_tested(d, marks_length);
-    if sized.number != 0 {
-        return sized;
-    }
     let matched = slots::tested(signature, d, info_there, info, resources_there, resources);
     if matched.number != 0 {
         return matched;
@@ -291,34 +285,38 @@ fn longest_side(info_there: bool, info: &[u8], resources_there: bool, resources:
     if a < b { b } else { a }
 }
 
-// Test 19 or 41 of the directory d, by where the image comes from. In a file the signature starts where the image ends.
-fn image_tested(d: &[u8], image_length: usize, origin: Origin) -> Answer
-    ensures { result ≡ first (origin_rows origin d.now image_length) accepted }
+// Test 19 or 41 of the directory d, by where the image comes from, and test 20. In a file the signature starts where the image ends.
+fn origin_tested(d: &[u8], image_length: usize, origin: Origin, marks_length: usize) -> Answer
+    ensures { result ≡ first (origin_rows origin d.now image_length ++ count_rows d.now marks_length) accepted }
 {
     match origin {
-        Origin::Apart => length_tested(d, image_length),
-        Origin::File(command) => start_tested(d, image_length, command),
+        Origin::Apart => sizes_tested(d, image_length, marks_length),
+        Origin::File(command) => start_tested(d, image_length, command, marks_length),
     }
 }
 
-// Test 19 of the directory d, by the length of the image.
-fn length_tested(d: &[u8], image_length: usize) -> Answer
-    ensures { result ≡ first (image_rows d.now image_length) accepted }
+// Tests 19 and 20 of the directory d, by the lengths of the image and of the marks.
+fn sizes_tested(d: &[u8], image_length: usize, marks_length: usize) -> Answer
+    ensures { result ≡ first (image_rows d.now image_length ++ count_rows d.now marks_length) accepted }
 {
     if image_length < directory::code_limit(d) {
-        return answer(19, 0);
+        return Answer {
+            number: 19,
+            place: 0,
+        };
     }
-    answer(0, 0)
+    count_tested(d, marks_length)
 }
 
-// Test 41 of the directory d, by where the signature starts in the file, and the position of the command that says so.
-fn start_tested(d: &[u8], start: usize, command: usize) -> Answer
-    ensures { result ≡ first (start_rows d.now start command) accepted }
+// Tests 41 and 20 of the directory d, by where the signature starts in the file, the position of the command that says so, and the length of
+// the marks.
+fn start_tested(d: &[u8], start: usize, command: usize, marks_length: usize) -> Answer
+    ensures { result ≡ first (start_rows d.now start command ++ count_rows d.now marks_length) accepted }
 {
     if start != directory::code_limit(d) {
         return answer(41, command);
     }
-    answer(0, 0)
+    count_tested(d, marks_length)
 }
 
 // Test 20 of the directory d, by the length of the marks.
@@ -326,9 +324,15 @@ fn count_tested(d: &[u8], marks_length: usize) -> Answer
     ensures { result ≡ first (count_rows d.now marks_length) accepted }
 {
     if marks_length != CodeDirectory::read(d).code_slots {
-        return answer(20, 0);
+        return Answer {
+            number: 20,
+            place: 0,
+        };
     }
-    answer(0, 0)
+    Answer {
+        number: 0,
+        place: 0,
+    }
 }
 
 // Tests 32 and 33 of the directory d: the range, and how many bytes are given for it.
