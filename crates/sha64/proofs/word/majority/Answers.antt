@@ -1,11 +1,7 @@
 -- The code has a shorter form of the definition (`maj_short`). Assumes nothing.
 use Rattle.std.proofs.Common.{arith}
 use Rattle.sha.proofs.Short.{maj_short}
-use Rattle.sha64.proofs.word.majority.Statement.{statement}
-use Rattle.sha64.proofs.word.majority.Tie as tie
+use Rattle.sha64.proofs.word.majority.Goals as goal
 
-returns : tie.Need-returns
+pub returns : goal.returns
 returns c = maj_short 64 _ _ _ (omega arith) (omega arith) (omega arith)
-
-pub majority-spec : {M : Type 1} → statement M
-majority-spec = tie.close (tie.spec returns)
