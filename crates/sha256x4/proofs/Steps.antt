@@ -1,13 +1,13 @@
 -- A round and a new word of one message, by the laws of `sha` for the sixteen words kept. Assumes nothing.
-use Prim.Native.Nat.{ℕ, suc, ◌+◌, ◌-◌, ◌*◌, ◌%◌, ◌<◌, ◌≤◌}
+use Prim.Native.Nat.{ℕ, ◌+◌, ◌-◌, ◌*◌, ◌%◌, ◌<◌, ◌≤◌}
 use mathlib.Core.Path.{◌≡◌, refl, sym, ap, subst, ◌∙◌}
 use mathlib.Core.List.{List, [], ◌∷◌, ◌++◌}
 use native.Mathlib.Numerals.{add-one}
 use native.Mathlib.Omega.{arith}
-use lib.ListN.{length, get_or, set}
+use lib.ListN.{get_or, set}
 use Rattle.sha.specs.Message.{words}
 use Rattle.endian.specs.Numbers.{big}
-use Rattle.sha.specs.Sha2.{Core, round, rounds, mix, mixed, schedule, compress, core256, k256}
+use Rattle.sha.specs.Sha2.{round, rounds, mix, mixed, schedule, compress, core256, k256}
 use Rattle.sha.specs.Words.{sums}
 use Rattle.sha.specs.Window.{Last, renewed}
 use Rattle.sha.proofs.Windows.{Held, held_first, held_renewed}
