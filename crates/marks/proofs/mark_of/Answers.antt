@@ -16,19 +16,14 @@ slot_below kind m n most s h l = omega (arith, slot_before (width_of kind) m n m
 slot_within : (kind m n most at w : ℕ) → at ≡ width_of kind * m → w ≡ width_of kind → width_of kind * n + width_of kind ≤ most → m ≤ n → at + w ≤ most
 slot_within kind m n most at w e f s l = omega (arith, slot_before (width_of kind) m n most s l)
 
--- the slot lies in the slots
-placed : (c : tie.After-slot-width) → c.before.slot-bytes.result + c.slot-width.result ≤ length c.before.before.before.args.slots.now
-placed c =
-    slot_within _ _ _ _ _ _ c.before.slot-bytes.ensures c.slot-width.ensures.0 c.before.before.before.requires (omega arith)
-
 pub slot_bytes-slot-requires : goal.slot_bytes-slot-requires
 slot_bytes-slot-requires c = slot_below _ _ _ _ c.requires (omega arith) (omega arith)
 
 pub overflow_add-next : goal.overflow_add-next
-overflow_add-next c = let p = placed c in omega arith
+overflow_add-next c = let p : c.slot_bytes-slot.result + c.slot_width.result ≤ length c.args.slots.now = slot_within _ _ _ _ _ _ c.slot_bytes-slot.ensures c.slot_width.ensures.0 c.requires (omega arith) in omega arith
 
 pub slice_bounds-slot_holds-end : goal.slice_bounds-slot_holds-end
-slice_bounds-slot_holds-end c = let p = placed c in omega arith
+slice_bounds-slot_holds-end c = let p : c.slot_bytes-slot.result + c.slot_width.result ≤ length c.args.slots.now = slot_within _ _ _ _ _ _ c.slot_bytes-slot.ensures c.slot_width.ensures.0 c.requires (omega arith) in omega arith
 
 pub returns-then-slot_holds : goal.returns-then-slot_holds
 returns-then-slot_holds c = let a = c.args in

@@ -23,7 +23,7 @@ pub bounds-marks-i : goal.bounds-marks-i
 bounds-marks-i c = omega arith
 
 pub overflow_add-i : goal.overflow_add-i
-overflow_add-i c = omega (arith, c.BARE-After-marks)
+overflow_add-i c = omega arith
 
 pub loop-i-smaller : goal.loop-i-smaller
 loop-i-smaller c = omega arith

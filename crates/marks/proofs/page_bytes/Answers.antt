@@ -7,31 +7,26 @@ use Rattle.geometry.proofs.Pages.{count_of, Within, within}
 use borrow.Author.Rules.{rules}
 use Rattle.marks.proofs.page_bytes.Goals as goal
 
-inside : (c : tie.After-shared-slice-known) → Within c.before.args.p c.before.args.limit c.before.args.from c.before.args.n
-inside c =
-    let b = c.before in
-    within _ _ _ _ b.requires.0 (count_of _ _ _ (omega (arith, b.requires.1)))
-
 pub overflow_mul-base : goal.overflow_mul-base
-overflow_mul-base c = let f = inside c in omega arith
+overflow_mul-base c = let f : Within c.args.p c.args.limit c.args.from c.args.n = within _ _ _ _ c.requires.0 (count_of _ _ _ (omega (arith, c.requires.1))) in omega arith
 
 pub overflow_mul-start : goal.overflow_mul-start
-overflow_mul-start c = let f = inside c in omega arith
+overflow_mul-start c = let f : Within c.args.p c.args.limit c.args.from c.args.n = within _ _ _ _ c.requires.0 (count_of _ _ _ (omega (arith, c.requires.1))) in omega arith
 
 pub overflow_sub-start : goal.overflow_sub-start
-overflow_sub-start c = let f = inside c in omega arith
+overflow_sub-start c = let f : Within c.args.p c.args.limit c.args.from c.args.n = within _ _ _ _ c.requires.0 (count_of _ _ _ (omega (arith, c.requires.1))) in omega arith
 
 pub page_end-requires : goal.page_end-requires
-page_end-requires c = let f = inside c in omega arith
+page_end-requires c = let f : Within c.args.p c.args.limit c.args.from c.args.n = within _ _ _ _ c.requires.0 (count_of _ _ _ (omega (arith, c.requires.1))) in omega arith
 
 pub overflow_sub-end : goal.overflow_sub-end
-overflow_sub-end c = let f = inside c.BARE-After-shared_slice_known in omega arith
+overflow_sub-end c = let f : Within c.args.p c.args.limit c.args.from c.args.n = within _ _ _ _ c.requires.0 (count_of _ _ _ (omega (arith, c.requires.1))) in omega arith
 
 pub slice_bounds-result-count : goal.slice_bounds-result-count
-slice_bounds-result-count c = let f = inside c.BARE-After-shared_slice_known in omega arith
+slice_bounds-result-count c = let f : Within c.args.p c.args.limit c.args.from c.args.n = within _ _ _ _ c.requires.0 (count_of _ _ _ (omega (arith, c.requires.1))) in omega arith
 
 pub slice_bounds-result-start : goal.slice_bounds-result-start
-slice_bounds-result-start c = let f = inside c.BARE-After-shared_slice_known in omega arith
+slice_bounds-result-start c = let f : Within c.args.p c.args.limit c.args.from c.args.n = within _ _ _ _ c.requires.0 (count_of _ _ _ (omega (arith, c.requires.1))) in omega arith
 
 pub returns : goal.returns
 returns c = let a = c.args in
