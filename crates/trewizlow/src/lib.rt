@@ -1,4 +1,5 @@
-// The C interface, include/trewizlow.h: thin functions over the crates that do the work. Each takes any bytes and any numbers.
+// What include/trewizlow.h declares, for C (trewizlow_c exports it) and for other crates: thin functions over the crates that do the work.
+// Each takes any bytes and any numbers.
 #![tactic(auto)]
 
 ghost use Rattle.std.specs.Prelude.{◌≡◌};
@@ -17,8 +18,7 @@ use refusals::Answer;
 use trustcache::Launch;
 
 // The whole check.
-#[unsafe(no_mangle)]
-pub extern "C" fn trewizlow_check(
+pub fn trewizlow_check(
     signature: &[u8],
     image: &[u8],
     marks: &mut [u8],
@@ -54,23 +54,21 @@ pub struct FileSignature {
     pub length: usize,
 }
 
-#[unsafe(no_mangle)]
-pub extern "C" fn trewizlow_file_read(file: &[u8]) -> FileSignature
+pub fn trewizlow_file_read(file: &[u8]) -> FileSignature
     ensures { result ≡ file_signature file.now }
 {
     let answer = macho::tested(file);
-    let span = macho::signature_span(file);
+    let part = macho::signature_span(file);
     FileSignature {
         number: answer.number,
         place: answer.place,
-        start: span.start,
-        length: span.end - span.start,
+        start: part.start,
+        length: part.end - part.start,
     }
 }
 
 // The whole check of a Mach-O file.
-#[unsafe(no_mangle)]
-pub extern "C" fn trewizlow_file_check(
+pub fn trewizlow_file_check(
     file: &[u8],
     marks: &mut [u8],
     cache: &[u8],
@@ -95,8 +93,7 @@ pub extern "C" fn trewizlow_file_check(
 }
 
 // The recheck of a range, lent the contents of the pages that it meets.
-#[unsafe(no_mangle)]
-pub extern "C" fn trewizlow_recheck(
+pub fn trewizlow_recheck(
     signature: &[u8],
     start: u64,
     size: u64,
@@ -118,8 +115,7 @@ pub struct BlobPart {
     pub length: usize,
 }
 
-#[unsafe(no_mangle)]
-pub extern "C" fn trewizlow_find(signature: &[u8], slot_type: u32) -> BlobPart
+pub fn trewizlow_find(signature: &[u8], slot_type: u32) -> BlobPart
     ensures { result ≡ blob_part signature.now slot_type }
 {
     let answer = superblob::tested(signature, 0);
@@ -155,8 +151,7 @@ pub struct DirectoryFields {
     pub ident_length: usize,
 }
 
-#[unsafe(no_mangle)]
-pub extern "C" fn trewizlow_read(signature: &[u8]) -> DirectoryFields
+pub fn trewizlow_read(signature: &[u8]) -> DirectoryFields
     ensures { result ≡ directory_fields signature.now }
 {
     let answer = directory::tested(signature, 0);
@@ -241,8 +236,7 @@ pub struct DirectoryHash {
     pub hash: [u8; 20],
 }
 
-#[unsafe(no_mangle)]
-pub extern "C" fn trewizlow_cdhash(signature: &[u8]) -> DirectoryHash
+pub fn trewizlow_cdhash(signature: &[u8]) -> DirectoryHash
     ensures { result ≡ directory_hash signature.now }
 {
     let answer = directory::tested(signature, 0);
