@@ -1,8 +1,8 @@
 /*
- * A host in C: checks a Mach-O file, then rechecks its first page. At the repository's top:
+ * A host in C: checks an image, then rechecks its first page. At the repository's top:
  *   cc -Wall -Wextra -I include examples/host.c target/staticlib/libtrewizlow.a -o host-example
- *   ./host-example samples/hello samples/hello.cache
- * It has no side files and no launch facts. Exit status: 0 the file may run, 1 it is refused,
+ *   ./host-example samples/signature.bin samples/image.bin samples/cache.bin
+ * It has no side files and no launch facts. Exit status: 0 the image may run, 1 it is refused,
  * 2 usage, a file that cannot be read, or no memory.
  */
 #include <stdio.h>
@@ -49,33 +49,30 @@ static buffer read_file(const char *path)
 
 int main(int argc, char **argv)
 {
-    if (argc != 3)
-        fail("usage", "host-example FILE CACHE");
-    buffer file = read_file(argv[1]), cache = read_file(argv[2]);
-
-    /* The part of the file that is its signature: empty where the file is refused. */
-    trewizlow_file_signature found = trewizlow_file_read(file.bytes, file.length);
-    buffer signature = {file.bytes + found.start, found.length};
+    if (argc != 4)
+        fail("usage", "host-example SIGNATURE IMAGE CACHE");
+    buffer signature = read_file(argv[1]), image = read_file(argv[2]), cache = read_file(argv[3]);
 
     /* One mark a page. A refused signature has 0 pages here, and the check says why. */
     trewizlow_directory directory = trewizlow_read(signature.bytes, signature.length);
     uint8_t *marks = room_for(NULL, directory.code_slots + (size_t)1);
 
     trewizlow_launch launch = {false, false, 0, 0, false};
-    trewizlow_verdict verdict = trewizlow_file_check(
-        file.bytes, file.length, marks, directory.code_slots, cache.bytes, cache.length,
-        false, file.bytes, 0, false, file.bytes, 0, launch);
+    trewizlow_verdict verdict = trewizlow_check(
+        signature.bytes, signature.length, image.bytes, image.length, marks, directory.code_slots,
+        cache.bytes, cache.length, false, image.bytes, 0, false, image.bytes, 0, launch);
     printf("check: number %u, place %zu\n", (unsigned)verdict.number, verdict.place);
 
-    /* Marks are there only after 0 or 31; a recheck goes on from them, with the signature. */
+    /* Marks are there only after 0 or 31; a recheck goes on from them. */
     if ((verdict.number == 0 || verdict.number == 31) && directory.code_slots > 0) {
         size_t first = directory.page_size < directory.code_limit ? directory.page_size : directory.code_limit;
         trewizlow_answer again = trewizlow_recheck(
-            signature.bytes, signature.length, 0, 1, file.bytes, first, marks, directory.code_slots);
+            signature.bytes, signature.length, 0, 1, image.bytes, first, marks, directory.code_slots);
         printf("recheck of page 0: number %u, place %zu\n", (unsigned)again.number, again.place);
     }
     free(marks);
     free(cache.bytes);
-    free(file.bytes);
+    free(image.bytes);
+    free(signature.bytes);
     return verdict.number == 0 ? 0 : 1;
 }

@@ -5,32 +5,17 @@
  * The library keeps no state, allocates nothing and calls nothing back; calls on different
  * threads are independent of each other.
  *
- * Answers. `number` 0 of a whole check says that the image may run. Of any other call it
- * says that every test of that call passes, and not that the image may run. 1 to 41 and 46
+ * Answers. `number` 0 of the whole check says that the image may run. Of any other call it
+ * says that every test of that call passes, and not that the image may run. 1 to 35 and 46
  * are the refusals, each given exactly when its condition is the first to hold. `place` says
- * where: an index position, a special slot, a cache entry, a category, a page or a load
- * command, and 0 where the number names no place.
+ * where: an index position, a special slot, a cache entry, a category or a page, and 0 where
+ * the number names no place.
  *
  * Tests. Each has the number of its refusal, and a call makes its tests in the order that is
  * said below. 46, that the directory's flags hold a bit outside CS_ALLOWED_MACHO (0x33F02),
  * is made after 14 and before 15 wherever 14 is made. 35, that its scatterOffset is not 0
  * (the four bytes at 44 of a directory of version 0x20100 or later), is made after 15 and
  * before 16 wherever 15 is made. "1 to 18" and "1 to 31" have both among them.
- *
- * Files. A 64-bit little-endian Mach-O file is lent whole: its load commands are walked (36 to
- * 40), the signature is the part that its one LC_CODE_SIGNATURE names, and the image is the
- * file before it. 36 to 41 leave all marks as they were.
- *   36  the file is under 32 bytes, or its magic is not 0xFEEDFACF
- *   37  a load command is under 8 bytes, no multiple of 8, or reaches past the stated command
- *       area or the file; or more than 4,096 are stated: place 4,096, and none is read
- *   38  none is an LC_CODE_SIGNATURE (0x1D)
- *   39  a second one is, or one has another size than 16
- *   40  the part that it names ends past the file
- *   41  that part does not start at the code limit
- * The command's offset has 32 bits, so that a code limit above 4,294,967,295 never passes 41:
- * such an image is lent apart, to trewizlow_check. After a check of a file rechecks speak of
- * that image and signature lent apart; of the file only while the walk of the new file finds
- * the same part.
  *
  * Hashes. The directory's hashType says by which function of FIPS 180-4 they are: 1 SHA-1,
  * 2 SHA-256, 3 SHA-256 cut to 20 bytes, 4 SHA-384, with 20, 32, 20 and 48 bytes a slot (13).
@@ -42,8 +27,8 @@
  * (1). The code limit is codeLimit64 where the directory's version is 0x20300 or later and
  * it is not 0, be it larger or smaller than codeLimit, and codeLimit elsewhere; it is at
  * most 17,179,869,184 (15). There are at most 1,048,576 pages, and so marks, and 11 special
- * slots (16). A trust cache has at most 65,536 entries (24). An image that is lent apart may
- * be longer than the code limit: no byte behind it is read.
+ * slots (16). A trust cache has at most 65,536 entries (24). An image may be longer than the
+ * code limit: no byte behind it is read.
  *
  * Buffers. Each is a pointer and a length in bytes. A pointer must not be null, even with
  * length 0: pass any other pointer then. Any bytes and any lengths may be lent. `marks` is
@@ -68,7 +53,7 @@
 #include <stdint.h>
 
 /* The number of this interface. It is raised whenever a declaration below changes. */
-#define TREWIZLOW_INTERFACE 2
+#define TREWIZLOW_INTERFACE 1
 
 #ifdef __cplusplus
 extern "C" {
@@ -118,16 +103,8 @@ typedef struct {
     uint8_t hash[20];
 } trewizlow_cdhash_answer;
 
-/* Where the signature lies in a Mach-O file. `start` and `length` are 0 where refused. */
-typedef struct {
-    uint32_t number;
-    size_t place;
-    size_t start, length;
-} trewizlow_file_signature;
-
 /*
- * The whole check of image and signature lent apart: tests 1 to 31. 0 where the image may run,
- * else the refusal.
+ * The whole check: tests 1 to 31. 0 where the image may run, else the refusal.
  * Lend one mark for each page: `code_slots` of trewizlow_read. Answers 0 and 31 write every
  * mark; any other answer leaves all marks as they were. Marks are not read.
  * A side file (Info.plist, CodeResources) whose flag is false is not read.
@@ -167,23 +144,6 @@ trewizlow_directory trewizlow_read(const uint8_t *signature, size_t signature_le
 
 /* The directory's hash: tests 1 to 18. All bytes are 0 where refused. Takes no marks. */
 trewizlow_cdhash_answer trewizlow_cdhash(const uint8_t *signature, size_t signature_len);
-
-/* Finds the signature of a Mach-O file: tests 36 to 40. Takes no marks. */
-trewizlow_file_signature trewizlow_file_read(const uint8_t *file, size_t file_len);
-
-/*
- * The whole check of a Mach-O file: tests 36 to 40, 1 to 18, 41, then 20 to 31. 0 where it may
- * run, else the refusal. Lend one mark for each page: `code_slots` of trewizlow_read on the
- * part that trewizlow_file_read names; rechecks go on with that part. Marks and side files are
- * as in trewizlow_check.
- */
-trewizlow_verdict trewizlow_file_check(
-    const uint8_t *file, size_t file_len,
-    uint8_t *marks, size_t marks_len,
-    const uint8_t *cache, size_t cache_len,
-    bool info_there, const uint8_t *info, size_t info_len,
-    bool resources_there, const uint8_t *resources, size_t resources_len,
-    trewizlow_launch launch);
 
 #ifdef __cplusplus
 }
@@ -246,12 +206,6 @@ TREWIZLOW_STRUCT(trewizlow_cdhash_answer, 40);
 TREWIZLOW_FIELD(trewizlow_cdhash_answer, number, 0, 4);
 TREWIZLOW_FIELD(trewizlow_cdhash_answer, place, 8, 8);
 TREWIZLOW_FIELD(trewizlow_cdhash_answer, hash, 16, 20);
-
-TREWIZLOW_STRUCT(trewizlow_file_signature, 32);
-TREWIZLOW_FIELD(trewizlow_file_signature, number, 0, 4);
-TREWIZLOW_FIELD(trewizlow_file_signature, place, 8, 8);
-TREWIZLOW_FIELD(trewizlow_file_signature, start, 16, 8);
-TREWIZLOW_FIELD(trewizlow_file_signature, length, 24, 8);
 
 #undef TREWIZLOW_FIELD
 #undef TREWIZLOW_STRUCT

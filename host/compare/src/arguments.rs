@@ -4,8 +4,7 @@ pub const HELP: &str = "\
 usage: compare [--cases N] [--seed N] [--case N]
 
 Lends random and damaged inputs to the proved library and to the independent reference, and
-compares answers, marks, lookups, fields, hashes and chains of rechecks. Each case has a
-signature and an image lent apart, and a whole Mach-O file.
+compares answers, marks, lookups, fields, hashes and chains of rechecks.
 
   --cases N   how many cases (default 10000)
   --seed N    the seed; case n of a seed is the same in every run (default 1)

@@ -2,7 +2,6 @@
 //! compared and printed.
 
 use reference::answer::{Answer, NUMBERS};
-use reference::inputs::file::FileInputs;
 use reference::inputs::Inputs;
 use reference::recheck::Range;
 
@@ -75,25 +74,6 @@ pub fn check(inputs: &Inputs, marks: &[u8]) -> (Said, Answer, Vec<u8>) {
     (said, answer, after.marks)
 }
 
-/// The check of a file by both; the reference's answer, and the marks after it.
-pub fn file_check(inputs: &FileInputs, marks: &[u8]) -> (Said, Answer, Vec<u8>) {
-    let (answer, after) = guarded(marks, |marks| reference::macho::check(&inputs.lent(), marks));
-    let lent = trewizlow::LentFile {
-        file: &inputs.file,
-        cache: &inputs.apart.cache,
-        info_plist: inputs.apart.info.as_deref(),
-        code_resources: inputs.apart.resources.as_deref(),
-        launch: facts(&inputs.apart.launch),
-    };
-    let (verdict, written) = guarded(marks, |marks| trewizlow::file_check(&lent, marks));
-    let said = Said {
-        call: "the file check".to_string(),
-        library: answered(verdict.number, verdict.place as u64, &written),
-        reference: answered(answer.number, answer.place, &after),
-    };
-    (said, answer, after.marks)
-}
-
 /// The recheck by both; the reference's answer, and the marks after it.
 pub fn recheck(signature: &[u8], range: &Range, marks: &[u8]) -> (Said, Answer, Vec<u8>) {
     let (answer, after) =
@@ -114,29 +94,16 @@ pub fn check_input(inputs: &Inputs, marks: &[u8]) -> String {
     let mut out = String::new();
     hex_line(&mut out, "signature", &inputs.signature);
     hex_line(&mut out, "image", &inputs.image);
-    beside(&mut out, inputs, marks);
-    out
-}
-
-/// What the check of a file was lent.
-pub fn file_check_input(inputs: &FileInputs, marks: &[u8]) -> String {
-    let mut out = String::new();
-    hex_line(&mut out, "file", &inputs.file);
-    beside(&mut out, &inputs.apart, marks);
-    out
-}
-
-/// What both are lent beside.
-fn beside(out: &mut String, inputs: &Inputs, marks: &[u8]) {
-    hex_line(out, "marks before", marks);
-    hex_line(out, "cache", &inputs.cache);
+    hex_line(&mut out, "marks before", marks);
+    hex_line(&mut out, "cache", &inputs.cache);
     for (name, file) in [("Info.plist", &inputs.info), ("CodeResources", &inputs.resources)] {
         match file {
-            Some(bytes) => hex_line(out, name, bytes),
-            None => word_line(out, name, "not there"),
+            Some(bytes) => hex_line(&mut out, name, bytes),
+            None => word_line(&mut out, name, "not there"),
         }
     }
-    word_line(out, "launch", inputs.launch);
+    word_line(&mut out, "launch", inputs.launch);
+    out
 }
 
 /// What a recheck was lent.

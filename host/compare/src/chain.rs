@@ -1,20 +1,16 @@
 //! Rechecks: chains that go on from a whole check's marks, and single ones on other marks.
 
 use reference::directory::{read, Directory};
-use reference::macho::signature_range;
 use reference::pages;
 use reference::random::Random;
 use reference::recheck::Range;
 
 use crate::calls::{self, Said};
-use crate::file_scene::FileScene;
 use crate::run::Run;
 use crate::scene::Scene;
 
 /// The most rechecks of a chain.
 const LONGEST: u64 = 5;
-/// Bytes that a header and a few load commands take.
-const HEADER_AND_COMMANDS: usize = 150;
 
 /// A range that mostly lies below the code limit.
 fn some_range(limit: u64, random: &mut Random) -> (u64, u64) {
@@ -42,9 +38,7 @@ fn new_bytes(book: &[u8], signed: &[u8], random: &mut Random) -> Vec<u8> {
     let right = signed.len() == book.len() && random.below(2) == 0;
     let mut bytes = if right { signed.to_vec() } else { book.to_vec() };
     if !bytes.is_empty() && random.below(3) == 0 {
-        // Half of them near the start, where a file has its header and load commands.
-        let most = if random.below(2) == 0 { HEADER_AND_COMMANDS } else { bytes.len() };
-        let at = random.below(most.min(bytes.len()) as u64) as usize;
+        let at = random.below(bytes.len() as u64) as usize;
         bytes[at] ^= 1 << random.below(8);
     }
     bytes
@@ -93,43 +87,18 @@ impl Chain<'_> {
     }
 }
 
-/// A chain from the marks that a whole check left: the book's image in the end, and the marks.
-pub fn chain(
-    run: &mut Run,
-    scene: Scene,
-    marks: Vec<u8>,
-    random: &mut Random,
-) -> (Vec<u8>, Vec<u8>) {
+/// A chain from the marks that a whole check left.
+pub fn chain(run: &mut Run, scene: Scene, marks: Vec<u8>, random: &mut Random) {
     let mut chain = Chain { run, scene, marks };
     for _ in 0..=random.below(LONGEST) {
         chain.step(random);
     }
     chain.closes();
-    let Chain { run, scene, marks } = chain;
     // A mark that is neither 0 nor 1, as no call leaves it.
-    if random.below(4) == 0 && !marks.is_empty() {
-        let mut odd = marks.clone();
-        odd[random.below(marks.len() as u64) as usize] = 2 + random.byte() % 254;
-        single(run, &scene, &odd, random);
-    }
-    (scene.inputs.image, marks)
-}
-
-/// A chain from the marks that a file check left, its signature and image lent apart. Then the
-/// new file: while its walk finds the same range, its check gives the chain's marks.
-pub fn file_chain(run: &mut Run, scene: FileScene, marks: Vec<u8>, random: &mut Random) {
-    let range = signature_range(&scene.inputs.file).expect("the check passed it");
-    let (image, marks) = chain(run, scene.apart(&range), marks, random);
-    let mut new = scene.inputs;
-    new.file[..image.len()].copy_from_slice(&image);
-    let checked = run.file(&new, &scene.marks).1;
-    if signature_range(&new.file) == Ok(range) {
-        let said = Said {
-            call: "the marks after a chain, which a check of the new file should give".into(),
-            library: format!("{marks:?}"),
-            reference: format!("{checked:?}"),
-        };
-        run.hold(said, || calls::file_check_input(&new, &scene.marks));
+    if random.below(4) == 0 && !chain.marks.is_empty() {
+        let at = random.below(chain.marks.len() as u64) as usize;
+        chain.marks[at] = 2 + random.byte() % 254;
+        single(chain.run, &chain.scene, &chain.marks, random);
     }
 }
 

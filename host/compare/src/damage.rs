@@ -1,11 +1,8 @@
 //! Damage to a good case, at four levels: the plan (the cache still lists the directory),
-//! the signature's layout, the cache's layout, and bytes. A file has two more: the header with
-//! its load commands, before the image is signed, and the file's bytes.
+//! the signature's layout, the cache's layout, and bytes.
 
 pub mod bytes;
 pub mod cache;
-pub mod file;
-pub mod header;
 pub mod plan;
 pub mod signature;
 

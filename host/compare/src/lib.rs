@@ -7,7 +7,6 @@ mod calls;
 mod chain;
 mod damage;
 mod difference;
-mod file_scene;
 mod lookups;
 mod plan;
 mod run;

@@ -1,8 +1,7 @@
-//! The calls that are lent a signature or a file alone, made of both.
+//! The calls that are lent a signature alone, made of both.
 
-use reference::answer::{Answer, DONE};
+use reference::answer::DONE;
 use reference::directory;
-use reference::macho;
 use reference::superblob;
 
 use crate::calls::{number_and_place, Said};
@@ -12,31 +11,21 @@ use crate::types::fields;
 pub fn find(signature: &[u8], kind: u32) -> Said {
     let ours = trewizlow::find(signature, kind);
     let theirs = superblob::find(signature, kind.into());
+    let (library, reference) = (ours.answer, theirs.answer);
+    let text = |answer, start: u64, length: u64| format!("{answer}: {start} + {length}");
     Said {
         call: format!("the lookup of type {kind:#x}"),
-        library: part_by_library(ours.answer, ours.start, ours.length),
-        reference: part(theirs.answer, theirs.start, theirs.length),
+        library: text(
+            number_and_place(library.number, library.place as u64),
+            ours.start as u64,
+            ours.length as u64,
+        ),
+        reference: text(
+            number_and_place(reference.number, reference.place),
+            theirs.start,
+            theirs.length,
+        ),
     }
-}
-
-/// Where a file has its signature by both; start and length 0 where refused.
-pub fn file_read(file: &[u8]) -> Said {
-    let (ours, theirs) = (trewizlow::file_read(file), macho::read(file));
-    Said {
-        call: "the reading of the file".to_string(),
-        library: part_by_library(ours.answer, ours.start, ours.length),
-        reference: part(theirs.answer, theirs.start, theirs.length),
-    }
-}
-
-/// An answer and the part that comes with it.
-fn part(answer: Answer, start: u64, length: u64) -> String {
-    format!("{}: {start} + {length}", number_and_place(answer.number, answer.place))
-}
-
-fn part_by_library(answer: trewizlow::Answer, start: usize, length: usize) -> String {
-    let answer = Answer { number: answer.number, place: answer.place as u64 };
-    part(answer, start as u64, length as u64)
 }
 
 /// The directory's fields by both; every one 0 where refused.

@@ -6,7 +6,6 @@ use reference::kinds::{
     CS_HASHTYPE_SHA1, CS_HASHTYPE_SHA256, CS_HASHTYPE_SHA256_TRUNCATED, CS_HASHTYPE_SHA384,
 };
 use reference::make::blob_of;
-use reference::make::macho::{CommandPlan, MachPlan, LC_SEGMENT_64, LC_UUID};
 use reference::random::Random;
 
 const VERSIONS: [u32; 12] = [
@@ -66,32 +65,6 @@ fn side_file(random: &mut Random) -> Option<Vec<u8>> {
 
 fn hash(random: &mut Random) -> [u8; 20] {
     std::array::from_fn(|_| random.byte())
-}
-
-/// Types of load commands that are not LC_CODE_SIGNATURE; the last ones are not far from it.
-pub const COMMANDS: [u32; 8] =
-    [LC_SEGMENT_64, LC_UUID, 0x2, 0xB, 0x8000_0028, 0x1C, 0x1E, 0x8000_001D];
-
-/// A load command of up to 96 bytes.
-pub fn command(random: &mut Random) -> CommandPlan {
-    let mut command =
-        CommandPlan::new(*random.pick(&COMMANDS), 8 * (1 + random.below(12)) as usize);
-    command.rest = random.bytes(command.rest.len());
-    command
-}
-
-/// A header that the walk passes: an LC_CODE_SIGNATURE among up to five other commands.
-pub fn header(random: &mut Random) -> MachPlan {
-    let mut commands: Vec<CommandPlan> = (0..random.below(6)).map(|_| command(random)).collect();
-    let at = random.below(commands.len() as u64 + 1) as usize;
-    commands.insert(at, CommandPlan::code_signature());
-    let mut mach = MachPlan::new(commands);
-    mach.padding = *random.pick(&[0, 0, 3, 200]);
-    if random.below(8) == 0 {
-        let area = mach.length() as u32 - 32;
-        mach.sizeofcmds = Some(*random.pick(&[area + 1, area + 8, area + 5000, u32::MAX]));
-    }
-    mach
 }
 
 pub fn good(random: &mut Random) -> InputsPlan {

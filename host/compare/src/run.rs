@@ -2,8 +2,7 @@
 
 use std::collections::BTreeMap;
 
-use reference::answer::{Answer, NUMBERS};
-use reference::inputs::file::FileInputs;
+use reference::answer::NUMBERS;
 use reference::kinds::KINDS;
 use reference::random::Random;
 use reference::recheck::Range;
@@ -11,7 +10,6 @@ use reference::recheck::Range;
 use crate::calls::{self, Said};
 use crate::chain;
 use crate::difference::{hex_line, Difference};
-use crate::file_scene::FileScene;
 use crate::lookups;
 use crate::scene::{random_of, Scene};
 
@@ -24,7 +22,6 @@ const LOOKED_UP: [u32; 19] =
 #[derive(Clone, Debug, Default)]
 pub struct Counts {
     pub checks: BTreeMap<u32, u64>,
-    pub files: BTreeMap<u32, u64>,
     pub rechecks: BTreeMap<u32, u64>,
     /// Cases by the hash kind of their directory.
     pub kinds: BTreeMap<u8, u64>,
@@ -34,8 +31,7 @@ pub struct Counts {
 impl Counts {
     /// The table's numbers that no call answered.
     pub fn missing(&self) -> Vec<u32> {
-        let calls = [&self.checks, &self.files, &self.rechecks];
-        let answered = |number: &u32| calls.iter().any(|counts| counts.contains_key(number));
+        let answered = |n: &u32| self.checks.contains_key(n) || self.rechecks.contains_key(n);
         NUMBERS.into_iter().filter(|number| !answered(number)).collect()
     }
 
@@ -43,13 +39,6 @@ impl Counts {
     pub fn missing_kinds(&self) -> Vec<u8> {
         KINDS.into_iter().filter(|kind| !self.kinds.contains_key(kind)).collect()
     }
-}
-
-/// The input of a call that is lent one thing alone.
-fn alone(name: &str, bytes: &[u8]) -> String {
-    let mut out = String::new();
-    hex_line(&mut out, name, bytes);
-    out
 }
 
 /// A run under way.
@@ -84,18 +73,13 @@ impl Run {
         after
     }
 
-    /// The reading and the check of a file by both; the answer, and the marks after it.
-    pub fn file(&mut self, inputs: &FileInputs, marks: &[u8]) -> (Answer, Vec<u8>) {
-        self.hold(lookups::file_read(&inputs.file), || alone("file", &inputs.file));
-        let (said, answer, after) = calls::file_check(inputs, marks);
-        *self.counts.files.entry(answer.number).or_default() += 1;
-        self.hold(said, || calls::file_check_input(inputs, marks));
-        (answer, after)
-    }
-
     /// Lookups, fields and hash.
     fn signature(&mut self, signature: &[u8], random: &mut Random) {
-        let input = || alone("signature", signature);
+        let input = || {
+            let mut out = String::new();
+            hex_line(&mut out, "signature", signature);
+            out
+        };
         let any = random.number() as u32;
         for kind in LOOKED_UP.into_iter().chain([any]) {
             self.hold(lookups::find(signature, kind), input);
@@ -107,27 +91,17 @@ impl Run {
     fn case(&mut self, case: u64) {
         self.case = case;
         let mut random = random_of(self.seed, case);
-        self.apart(&mut random);
-        let scene = FileScene::new(&mut random);
-        let (answer, marks) = self.file(&scene.inputs, &scene.marks);
-        if matches!(answer.number, 0 | 31) {
-            chain::file_chain(self, scene, marks, &mut random);
-        }
-    }
-
-    /// The calls that are lent signature and image apart.
-    fn apart(&mut self, random: &mut Random) {
-        let scene = Scene::new(random);
+        let scene = Scene::new(&mut random);
         *self.counts.kinds.entry(scene.kind).or_default() += 1;
-        self.signature(&scene.inputs.signature, random);
+        self.signature(&scene.inputs.signature, &mut random);
         let (said, answer, marks) = calls::check(&scene.inputs, &scene.marks);
         *self.counts.checks.entry(answer.number).or_default() += 1;
         self.hold(said, || calls::check_input(&scene.inputs, &scene.marks));
         if matches!(answer.number, 0 | 31) {
-            chain::chain(self, scene, marks, random);
+            chain::chain(self, scene, marks, &mut random);
         } else {
             let marks: Vec<u8> = scene.marks.iter().map(|mark| mark % 2).collect();
-            chain::single(self, &scene, &marks, random);
+            chain::single(self, &scene, &marks, &mut random);
         }
     }
 

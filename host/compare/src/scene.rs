@@ -30,21 +30,6 @@ pub struct Scene {
     pub signed: Vec<u8>,
 }
 
-/// At which levels a case is damaged, and how often.
-pub struct Levels(Vec<u64>);
-
-impl Levels {
-    /// No damage or up to three, each at one of so many levels.
-    pub fn new(levels: u64, random: &mut Random) -> Levels {
-        let damages = *random.pick(&[0, 0, 1, 1, 1, 1, 1, 2, 2, 3]);
-        Levels((0..damages).map(|_| random.below(levels)).collect())
-    }
-
-    pub fn times(&self, level: u64) -> usize {
-        self.0.iter().filter(|&&l| l == level).count()
-    }
-}
-
 /// The generator of one case (splitmix64 of seed and number, so that neighbours differ).
 pub fn random_of(seed: u64, case: u64) -> Random {
     let mut z = seed.wrapping_add((case + 1).wrapping_mul(0x9E37_79B9_7F4A_7C15));
@@ -56,15 +41,11 @@ pub fn random_of(seed: u64, case: u64) -> Random {
 impl Scene {
     /// A good case with no damage or up to three.
     pub fn new(random: &mut Random) -> Scene {
-        let plan = plan::good(random);
-        let levels = Levels::new(4, random);
-        Scene::damaged(plan, &levels, random)
-    }
-
-    /// A case from a good plan, damaged at levels 0 to 3.
-    pub fn damaged(mut plan: InputsPlan, levels: &Levels, random: &mut Random) -> Scene {
+        let mut plan = plan::good(random);
         let (kind, signed) = (plan.directory.kind, plan.image.clone());
-        let at = |level| levels.times(level);
+        let damages = *random.pick(&[0, 0, 1, 1, 1, 1, 1, 2, 2, 3]);
+        let levels: Vec<u64> = (0..damages).map(|_| random.below(4)).collect();
+        let at = |level: u64| levels.iter().filter(|&&l| l == level).count();
         (0..at(0)).for_each(|_| damage::plan::damage(&mut plan, random));
         let mut draft = Draft::new(&plan);
         (0..at(1)).for_each(|_| damage::signature::damage(&mut draft, random));

@@ -2,13 +2,11 @@
 
 use compare::{facts, fields};
 use reference::directory::{self, MOST_CODE_SLOTS};
-use reference::inputs::file::FileInputs;
 use reference::inputs::{Inputs, InputsPlan};
 use reference::kinds::{CS_HASHTYPE_SHA256, CS_HASHTYPE_SHA384};
-use reference::make::macho::MachPlan;
 use reference::make::{blob_of, width, DirectoryPlan, SignaturePlan};
 use reference::superblob::{find, MOST_SIDE_FILE, MOST_SIGNATURE};
-use trewizlow::{Lent, LentFile, MOST_PAGES, MOST_SIDE_FILE_BYTES, MOST_SIGNATURE_BYTES};
+use trewizlow::{Lent, MOST_PAGES, MOST_SIDE_FILE_BYTES, MOST_SIGNATURE_BYTES};
 
 /// What both say of a signature: number and place of reading it.
 fn read(signature: &[u8]) -> (u32, u64) {
@@ -64,25 +62,6 @@ fn longest_signatures() {
         let filled = SignaturePlan::new(blobs).bytes();
         assert_eq!(filled.len() as u64, length);
         assert_eq!(read(&filled), wanted);
-    }
-}
-
-/// The same in a file: its signature has the stated length.
-#[test]
-fn longest_signature_in_a_file() {
-    for (length, wanted) in [(MOST_SIGNATURE, (0, 0)), (MOST_SIGNATURE + 1, (1, 0))] {
-        let mut mach = MachPlan::common();
-        mach.datasize = Some(length as u32);
-        let apart = InputsPlan::new(0x20400, vec![7; 5000], 12).in_file(&mach).build();
-        let mut inputs = FileInputs::new(apart);
-        inputs.file.resize(5000 + length as usize, 0x55);
-        let lent = LentFile::new(&inputs.file, &inputs.apart.cache);
-        let mut marks = vec![7; inputs.apart.pages];
-        let verdict = trewizlow::file_check(&lent, &mut marks);
-        let (answer, after) = inputs.check(7);
-        assert_eq!((verdict.number, verdict.place as u64), wanted);
-        assert_eq!((answer.number, answer.place), wanted);
-        assert!(marks == after, "the marks differ");
     }
 }
 

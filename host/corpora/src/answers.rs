@@ -10,13 +10,12 @@ use reference::check::{check, Lent};
 use reference::directory;
 use reference::kinds::CS_HASHTYPE_SHA256;
 use reference::launch::{self, Launch};
-use reference::macho::{self, FileSignature, LentFile};
 use reference::recheck::{recheck, Range};
 use reference::slots::{self, SideFiles};
 use reference::superblob::{self, Found};
 
 use crate::case::{
-    operation, Fields, CACHE, FACTS, FILE, HASH, IMAGE, INFO, RANGE, RESOURCES, SIGNATURE, TYPES,
+    operation, Fields, CACHE, FACTS, HASH, IMAGE, INFO, RANGE, RESOURCES, SIGNATURE, TYPES,
 };
 
 /// The answer to a case and what is printed behind its name. `marks` are those before the
@@ -28,8 +27,6 @@ pub fn answer(operation: u8, fields: &Fields, marks: &mut [u8]) -> (Answer, Stri
         operation::CACHE => alone(tested_cache(fields)),
         operation::CHECK => with_marks(whole_check(fields, marks), marks),
         operation::RECHECK => with_marks(range_check(fields, marks), marks),
-        operation::FILE_READ => file_signature(macho::read(fields[FILE])),
-        operation::FILE_CHECK => with_marks(file_check(fields, marks), marks),
         _ => unreachable!("no such operation"),
     }
 }
@@ -144,21 +141,6 @@ fn whole_check(fields: &Fields, marks: &mut [u8]) -> Answer {
 fn range_check(fields: &Fields, marks: &mut [u8]) -> Answer {
     let (start, length) = (be64(fields[RANGE], 0), be64(fields[RANGE], 8));
     recheck(fields[SIGNATURE], &Range { start, length, bytes: fields[IMAGE] }, marks)
-}
-
-/// `NUMBER PLACE START+LENGTH`.
-fn file_signature(FileSignature { answer, start, length }: FileSignature) -> (Answer, String) {
-    (answer, format!("{} {start}+{length}", text(answer)))
-}
-
-fn file_check(fields: &Fields, marks: &mut [u8]) -> Answer {
-    let lent = LentFile {
-        file: fields[FILE],
-        cache: fields[CACHE],
-        files: side_files(fields),
-        launch: launch_facts(fields),
-    };
-    macho::check(&lent, marks)
 }
 
 #[cfg(test)]

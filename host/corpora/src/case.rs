@@ -20,8 +20,6 @@ pub const TYPES: usize = 7;
 pub const HASH: usize = 8;
 /// A case without this field goes on with the marks that the call before left.
 pub const MARKS: usize = 9;
-/// A whole Mach-O file.
-pub const FILE: usize = 10;
 
 /// The most characters of a name.
 const LONGEST_NAME: usize = 60;
@@ -38,9 +36,6 @@ pub mod operation {
     pub const RECHECK: u8 = 4;
     /// Document 01's small program; its three fields are names of files.
     pub const SMALL: u8 = 5;
-    /// Where a file has its signature: tests 36 to 40.
-    pub const FILE_READ: u8 = 6;
-    pub const FILE_CHECK: u8 = 7;
 }
 
 /// The bytes of every field; empty where a case has none.

@@ -4,9 +4,7 @@
 use reference::launch::Launch;
 
 pub mod caches;
-pub mod call;
 pub mod checks;
-pub mod files;
 pub mod readers;
 pub mod signatures;
 pub mod slots;

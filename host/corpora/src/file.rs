@@ -15,8 +15,7 @@ use crate::item;
 pub const ARENA: usize = 4_456_449;
 
 /// The bytes of each field's own region of the arena, which follow each other.
-const ROOMS: [usize; 11] =
-    [65_536, 65_536, 32_768, 16_384, 16_384, 1024, 1024, 1024, 1024, 1024, 49_152];
+const ROOMS: [usize; 10] = [65_536, 65_536, 32_768, 16_384, 16_384, 1024, 1024, 1024, 1024, 1024];
 /// Where an item starts that does not fit its region.
 const LONG: usize = 262_144;
 

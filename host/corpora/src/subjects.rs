@@ -7,7 +7,7 @@ use reference::answer::NUMBERS;
 use crate::answers::answer;
 use crate::case::{Case, MARKS};
 use crate::cases::signatures::faults::TESTS;
-use crate::cases::{caches, checks, files, readers, signatures, slots};
+use crate::cases::{caches, checks, readers, signatures, slots};
 use crate::file::Writer;
 
 /// The most bytes of a file: one less than the runner's buffer has (crates/case_run).
@@ -24,15 +24,8 @@ fn with_0(numbers: &[u32]) -> Vec<u32> {
     [&[0], numbers].concat()
 }
 
-/// The table but for some numbers.
-fn all_but(numbers: impl Fn(u32) -> bool) -> Vec<u32> {
-    NUMBERS.into_iter().filter(|&number| !numbers(number)).collect()
-}
-
-fn subjects() -> [Subject; 6] {
-    let of_files = |number| (36..=41).contains(&number);
-    // An image that ends at the code limit is not too short.
-    let not_of_files = |number| [19, 32, 33, 34].contains(&number);
+fn subjects() -> [Subject; 5] {
+    let all = NUMBERS.to_vec();
     [
         Subject { name: "signatures", cases: signatures::corpus, wanted: with_0(&TESTS) },
         Subject { name: "readers", cases: readers::corpus, wanted: with_0(&TESTS) },
@@ -42,8 +35,7 @@ fn subjects() -> [Subject; 6] {
             cases: caches::corpus,
             wanted: with_0(&[24, 25, 26, 27, 28, 29, 30]),
         },
-        Subject { name: "checks", cases: checks::corpus, wanted: all_but(of_files) },
-        Subject { name: "files", cases: files::corpus, wanted: all_but(not_of_files) },
+        Subject { name: "checks", cases: checks::corpus, wanted: all },
     ]
 }
 

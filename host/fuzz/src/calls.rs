@@ -2,7 +2,7 @@
 
 use compare::{facts, fields};
 use reference::directory;
-use trewizlow::{Answer, Blob, CdHash, FileSignature, Lent, LentFile, Verdict};
+use trewizlow::{Answer, Blob, CdHash, Lent, Verdict};
 
 use crate::cut::{Cut, Operation};
 use crate::expected::expected;
@@ -17,18 +17,15 @@ pub enum Said {
     /// The directory's fields in the order of the C interface.
     Read(Answer, [u64; 15]),
     CdHash(CdHash),
-    FileRead(FileSignature),
-    FileCheck(Verdict, Vec<u8>),
 }
 
 impl Said {
     fn number(&self) -> u32 {
         match self {
-            Said::Check(verdict, _) | Said::FileCheck(verdict, _) => verdict.number,
+            Said::Check(verdict, _) => verdict.number,
             Said::Recheck(answer, _) | Said::Read(answer, _) => answer.number,
             Said::Find(blob) => blob.answer.number,
             Said::CdHash(cdhash) => cdhash.answer.number,
-            Said::FileRead(found) => found.answer.number,
         }
     }
 }
@@ -53,7 +50,7 @@ pub fn compare(cut: &Cut) -> u32 {
 fn listed_cache(cut: &Cut) -> Vec<u8> {
     let mut cache = cut.cache.to_vec();
     let first = reference::cache::HEAD as usize;
-    if let (true, Ok(directory)) = (cut.listed, directory::read(cut.signature_used(), false)) {
+    if let (true, Ok(directory)) = (cut.listed, directory::read(cut.signature, false)) {
         let mut listed = directory.cdhash().to_vec();
         if cut.typed {
             listed.push(directory.hash_type() as u8);
@@ -93,23 +90,5 @@ fn by_library(cut: &Cut, edge: Edge) -> Said {
             Said::Read(directory.answer, fields(&directory))
         }
         Operation::CdHash => Said::CdHash(trewizlow::cdhash(&signature)),
-        Operation::FileRead => Said::FileRead(trewizlow::file_read(&lend(cut.image))),
-        Operation::FileCheck => {
-            let verdict = file_check(cut, edge, &mut marks);
-            Said::FileCheck(verdict, marks.to_vec())
-        }
     }
-}
-
-fn file_check(cut: &Cut, edge: Edge, marks: &mut [u8]) -> Verdict {
-    let lend = |bytes: &[u8]| ReadOnly::new(bytes, edge);
-    let (file, cache) = (lend(cut.image), lend(cut.cache));
-    let (info, resources) = (cut.info.map(lend), cut.resources.map(lend));
-    let lent = LentFile {
-        info_plist: info.as_deref(),
-        code_resources: resources.as_deref(),
-        launch: facts(&cut.launch),
-        ..LentFile::new(&file, &cache)
-    };
-    trewizlow::file_check(&lent, marks)
 }

@@ -9,13 +9,11 @@
 //! | 8 to 15, 16 to 23 | start and length of a recheck's range |
 //! | 24 to 33 | lengths of the five parts that follow, two bytes each |
 //!
-//! Numbers are little-endian. The parts: image (or the pages of a recheck, or a file), cache,
-//! Info.plist, CodeResources, marks; what is left is the signature. Bytes that are missing from the first
+//! Numbers are little-endian. The parts: image (or the pages of a recheck), cache, Info.plist,
+//! CodeResources, marks; what is left is the signature. Bytes that are missing from the first
 //! 34 are 0, and a part ends where the input ends.
 
-use reference::bytes::part;
 use reference::launch::Launch;
-use reference::macho;
 
 #[derive(Clone, Copy, Debug, PartialEq, Eq)]
 pub enum Operation {
@@ -24,19 +22,10 @@ pub enum Operation {
     Find,
     Read,
     CdHash,
-    FileRead,
-    FileCheck,
 }
 
-const OPERATIONS: [Operation; 7] = [
-    Operation::Check,
-    Operation::Recheck,
-    Operation::Find,
-    Operation::Read,
-    Operation::CdHash,
-    Operation::FileRead,
-    Operation::FileCheck,
-];
+const OPERATIONS: [Operation; 5] =
+    [Operation::Check, Operation::Recheck, Operation::Find, Operation::Read, Operation::CdHash];
 
 const HEAD: usize = 34;
 /// Where the lengths of the parts stand.
@@ -92,18 +81,6 @@ impl<'a> Cut<'a> {
             resources: None,
             marks: &[],
             signature,
-        }
-    }
-
-    /// The signature that the call goes by: the one that is lent, or the one in the file; an empty
-    /// one where the walk refuses.
-    pub fn signature_used(&self) -> &'a [u8] {
-        match self.operation {
-            Operation::FileRead | Operation::FileCheck => {
-                let found = macho::read(self.image);
-                part(self.image, found.start, found.length)
-            }
-            _ => self.signature,
         }
     }
 

@@ -2,11 +2,10 @@
 
 use reference::answer::DONE;
 use reference::check::Lent;
-use reference::macho::{self, LentFile};
 use reference::recheck::Range;
 use reference::slots::SideFiles;
 use reference::{directory, superblob};
-use trewizlow::{Answer, Blob, CdHash, FileSignature, Verdict};
+use trewizlow::{Answer, Blob, CdHash, Verdict};
 
 use crate::calls::Said;
 use crate::cut::{Cut, Operation};
@@ -17,7 +16,7 @@ pub fn expected(cut: &Cut) -> Said {
     match cut.operation {
         Operation::Check => {
             let answer = reference::check::check(&lent(cut), &mut marks);
-            Said::Check(verdict_of(answer), marks)
+            Said::Check(Verdict { number: answer.number, place: answer.place as usize }, marks)
         }
         Operation::Recheck => {
             let range = Range { start: cut.start, length: cut.length, bytes: cut.image };
@@ -27,12 +26,6 @@ pub fn expected(cut: &Cut) -> Said {
         Operation::Find => Said::Find(found(cut.signature, cut.kind)),
         Operation::Read => read(cut.signature),
         Operation::CdHash => Said::CdHash(cdhash(cut.signature)),
-        Operation::FileRead => Said::FileRead(file_signature(cut.image)),
-        Operation::FileCheck => {
-            let Lent { image: file, cache, files, launch, .. } = lent(cut);
-            let answer = macho::check(&LentFile { file, cache, files, launch }, &mut marks);
-            Said::FileCheck(verdict_of(answer), marks)
-        }
     }
 }
 
@@ -48,19 +41,6 @@ fn lent<'a>(cut: &Cut<'a>) -> Lent<'a> {
 
 fn answer_of(answer: reference::answer::Answer) -> Answer {
     Answer { number: answer.number, place: answer.place as usize }
-}
-
-fn verdict_of(answer: reference::answer::Answer) -> Verdict {
-    Verdict { number: answer.number, place: answer.place as usize }
-}
-
-fn file_signature(file: &[u8]) -> FileSignature {
-    let found = macho::read(file);
-    FileSignature {
-        answer: answer_of(found.answer),
-        start: found.start as usize,
-        length: found.length as usize,
-    }
 }
 
 fn found(signature: &[u8], kind: u32) -> Blob {

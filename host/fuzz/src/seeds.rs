@@ -1,14 +1,13 @@
-//! Inputs to start from: the calls of the corpora on checks, rechecks, files and signatures, and
-//! a few that no corpus has.
+//! Inputs to start from: the calls of the corpora on checks, rechecks and signatures, and a
+//! few that no corpus has.
 
 use corpora::answers::answer;
-use corpora::case::{Case, SIGNATURE, TYPES};
-use corpora::cases::call::{Call, Kind};
-use corpora::cases::{checks, files, readers, signatures};
+use corpora::case::{Case, MARKS, SIGNATURE, TYPES};
+use corpora::cases::checks::{self, Call, Kind};
+use corpora::cases::{readers, signatures};
 use reference::bytes::be32;
-use reference::inputs::file::FileInputs;
+use reference::inputs::Inputs;
 use reference::kinds::KINDS;
-use reference::make::macho::MachPlan;
 use reference::superblob;
 
 use crate::cut::{Cut, Operation};
@@ -40,9 +39,7 @@ fn seed(name: &str, number: u32, cut: &Cut) -> Option<Seed> {
 fn cut_of<'a>(call: &'a Call, marks: &'a [u8]) -> Cut<'a> {
     let operation = match call.kind {
         Kind::WholeCheck => Operation::Check,
-        Kind::Recheck => Operation::Recheck,
-        Kind::FileRead => Operation::FileRead,
-        Kind::FileCheck => Operation::FileCheck,
+        Kind::Recheck | Kind::RecheckAfter => Operation::Recheck,
     };
     Cut {
         launch: call.launch,
@@ -57,13 +54,12 @@ fn cut_of<'a>(call: &'a Call, marks: &'a [u8]) -> Cut<'a> {
     }
 }
 
-/// Whole checks, rechecks and files. In a chain the marks go on from call to call.
-fn of_calls() -> Vec<Seed> {
+/// Whole checks and rechecks. In a chain the marks go on from call to call.
+fn of_checks() -> Vec<Seed> {
     let (mut seeds, mut marks) = (Vec::new(), Vec::new());
-    let cases = checks::corpus().into_iter().chain(files::corpus());
-    for (call, case) in checks::cases().iter().chain(&files::cases()).zip(cases) {
-        if let Some(own) = &call.marks {
-            marks.clone_from(own);
+    for (call, case) in checks::cases().iter().zip(checks::corpus()) {
+        if let Some(own) = case.field(MARKS) {
+            marks = own.to_vec();
         }
         let before = marks.clone();
         let (answer, _) = answer(case.operation, &case.lent(), &mut marks);
@@ -100,18 +96,17 @@ fn of_signatures() -> Vec<Seed> {
 const VERSIONS: [u32; 7] = [0x20001, 0x20100, 0x20200, 0x20300, 0x20400, 0x20500, 0x20600];
 
 /// Everything that can be there is there, under a version and a hash kind, alone in its cache.
-fn full(version: u32, kind: u8) -> FileInputs {
+fn full(version: u32, kind: u8) -> Inputs {
     let mut plan = checks::full_of(kind);
     plan.directory.version = version;
     plan.neighbours.clear();
-    FileInputs::new(plan.in_file(&MachPlan::common()).build())
+    plan.build()
 }
 
-/// Accepted calls under a version and a hash kind: a whole check and a file check whose directory
-/// stays listed when the signature is changed, which no corpus has, and a recheck of the whole
-/// image.
+/// Accepted calls under a version and a hash kind: a whole check whose directory stays listed when
+/// the signature is changed, which no corpus has, and a recheck of the whole image.
 fn of_version(version: u32, kind: u8) -> Vec<Seed> {
-    let FileInputs { file, apart: inputs } = full(version, kind);
+    let inputs = full(version, kind);
     let marks = vec![0; inputs.pages];
     let (image, marks) = (&inputs.image[..], &marks[..]);
     let check = Cut {
@@ -127,8 +122,7 @@ fn of_version(version: u32, kind: u8) -> Vec<Seed> {
     };
     let length = image.len() as u64;
     let recheck = Cut { image, length, marks, ..Cut::new(Operation::Recheck, &inputs.signature) };
-    let file_check = Cut { operation: Operation::FileCheck, image: &file, signature: &[], ..check };
-    let calls = [("listed check", check), ("listed file", file_check), ("whole recheck", recheck)];
+    let calls = [("listed check", check), ("whole recheck", recheck)];
     let name = |what| format!("{version:x}, kind {kind}, {what}");
     calls.iter().filter_map(|(what, cut)| seed(&name(what), 0, cut)).collect()
 }
@@ -136,5 +130,5 @@ fn of_version(version: u32, kind: u8) -> Vec<Seed> {
 pub fn seeds() -> Vec<Seed> {
     let pairs = VERSIONS.into_iter().flat_map(|version| KINDS.map(|kind| (version, kind)));
     let versions = pairs.flat_map(|(version, kind)| of_version(version, kind));
-    of_calls().into_iter().chain(of_signatures()).chain(versions).collect()
+    of_checks().into_iter().chain(of_signatures()).chain(versions).collect()
 }

@@ -3,7 +3,7 @@
 use std::collections::{BTreeMap, BTreeSet};
 
 use corpora::case::Case;
-use corpora::cases::{checks, files, readers, signatures};
+use corpora::cases::{checks, readers, signatures};
 use corpora::subjects;
 use fuzz::{compare, seeds, Cut, Seed, MOST_BYTES};
 use reference::answer::NUMBERS;
@@ -62,15 +62,14 @@ fn printed() -> BTreeMap<String, u32> {
     numbers.collect()
 }
 
-/// Every case of the four corpora is a seed with the number that its line prints; only long
+/// Every case of the three corpora is a seed with the number that its line prints; only long
 /// ones are left out.
 #[test]
 fn every_case_is_a_seed() {
     let (printed, seeds) = (printed(), seeds());
     let numbers: BTreeMap<&str, u32> =
         seeds.iter().map(|seed| (seed.name.as_str(), seed.number)).collect();
-    let corpora = [checks::corpus, files::corpus, signatures::corpus, readers::corpus];
-    for case in corpora.into_iter().flat_map(|corpus| corpus()) {
+    for case in checks::corpus().into_iter().chain(signatures::corpus()).chain(readers::corpus()) {
         let name = &case.name;
         let asked = [name.clone(), format!("{name}, fields"), format!("{name}, hash")];
         let found: Vec<&u32> = asked.iter().filter_map(|name| numbers.get(name.as_str())).collect();

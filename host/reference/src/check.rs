@@ -20,7 +20,7 @@ pub struct Lent<'a> {
 }
 
 /// The second half of test 1. A file that is not there is not looked at.
-pub(crate) fn side_file_too_long(files: &SideFiles) -> bool {
+fn side_file_too_long(files: &SideFiles) -> bool {
     let too_long = |file: Option<&[u8]>| file.is_some_and(|f| f.len() as u64 > MOST_SIDE_FILE);
     too_long(files.info) || too_long(files.resources)
 }

@@ -7,8 +7,6 @@ use crate::launch::Launch;
 use crate::make::{CacheEntry, CachePlan, DirectoryPlan, SignaturePlan};
 use crate::slots::SideFiles;
 
-pub mod file;
-
 /// Launch facts under which category 1 passes.
 pub const SYSTEM_SERVICE: Launch = Launch {
     on_authorized_volume: false,

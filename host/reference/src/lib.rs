@@ -13,7 +13,6 @@ pub mod directory;
 pub mod inputs;
 pub mod kinds;
 pub mod launch;
-pub mod macho;
 pub mod make;
 mod message;
 pub mod pages;

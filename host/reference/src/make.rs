@@ -7,8 +7,6 @@ use crate::directory::{cdhash, head_size};
 use crate::kinds::{self, CS_HASHTYPE_SHA256};
 use crate::superblob::{self, magic_of};
 
-pub mod macho;
-
 /// A slot of any width.
 pub type Slot = Vec<u8>;
 

@@ -1,4 +1,4 @@
-//! The calls that are lent image and signature apart, and marks: the whole check and the recheck.
+//! The calls that are lent marks: the whole check and the recheck.
 
 use crate::{Answer, Verdict};
 

@@ -3,7 +3,7 @@
 
 use std::mem::{offset_of, size_of};
 
-use crate::{Answer, Blob, CdHash, Directory, FileSignature, Launch, Verdict};
+use crate::{Answer, Blob, CdHash, Directory, Launch, Verdict};
 
 /// Bytes of a field, by a function that borrows it.
 const fn bytes_of<S, F>(_: fn(&S) -> &F) -> usize {
@@ -70,11 +70,5 @@ laid_out! {
         answer.number: 0..4,
         answer.place: 8..16,
         hash: 16..36,
-    }
-    FileSignature: 32 {
-        answer.number: 0..4,
-        answer.place: 8..16,
-        start: 16..24,
-        length: 24..32,
     }
 }

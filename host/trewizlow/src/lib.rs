@@ -8,44 +8,42 @@
 //! 1 to 18" and "1 to 31" have both among them.
 //!
 //! ```
-//! use trewizlow::{file_check, file_read, read, recheck, LentFile};
+//! use trewizlow::{check, read, recheck, Lent};
 //!
 //! let sample = |name| std::fs::read(format!("../../samples/{name}")).unwrap();
-//! let (mut file, cache) = (sample("hello"), sample("hello.cache"));
+//! let (signature, image, cache) =
+//!     (sample("signature.bin"), sample("image.bin"), sample("cache.bin"));
 //!
-//! // One mark a page; the directory of the file's signature says how many pages there are.
-//! let signature = file_read(&file).part(&file).to_vec();
-//! let mut marks = vec![0; read(&signature).code_slots as usize];
-//! let verdict = file_check(&LentFile::new(&file, &cache), &mut marks);
+//! // One mark a page; the signature's directory says how many pages there are.
+//! let directory = read(&signature);
+//! let mut marks = vec![0; directory.code_slots as usize];
+//! let verdict = check(&Lent::new(&signature, &image, &cache), &mut marks);
 //! assert!(verdict.accepted());
-//! assert_eq!(marks, [0; 13]);
+//! assert_eq!(marks, [0, 0, 0]);
 //!
 //! // A change of bytes 4095 and 4096 meets pages 0 and 1: both are lent again.
-//! file[4095] ^= 1;
-//! file[4096] ^= 1;
-//! let answer = recheck(&signature, 4095, 2, &file[..8192], &mut marks);
+//! let mut changed = image.clone();
+//! changed[4095] ^= 1;
+//! changed[4096] ^= 1;
+//! let answer = recheck(&signature, 4095, 2, &changed[..8192], &mut marks);
 //! assert_eq!((answer.number, answer.place), (31, 0));
-//! assert_eq!(marks[..3], [1, 1, 0]);
+//! assert_eq!(marks, [1, 1, 0]);
 //! println!("{answer}");
 //! ```
-//!
-//! [`check`] is lent the image and the signature apart.
 
 mod answer;
-mod file;
 mod interface;
 mod layout;
 mod rules;
 mod signature;
 
 pub use answer::{Answer, Verdict};
-pub use file::{file_check, file_read, FileSignature, LentFile};
 pub use interface::{check, recheck, Launch, Lent};
 pub use rules::{Rule, RULES};
 pub use signature::{cdhash, find, read, Blob, CdHash, Directory};
 
 /// The number of the C interface that this crate declares: `TREWIZLOW_INTERFACE` of the header.
-pub const INTERFACE: u32 = 2;
+pub const INTERFACE: u32 = 1;
 /// The most bytes of a signature (test 1).
 pub const MOST_SIGNATURE_BYTES: usize = 67_108_864;
 /// The most bytes of a side file that is there (test 1).

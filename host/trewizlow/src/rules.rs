@@ -30,21 +30,16 @@ impl Rule {
     }
 }
 
-const FINDING: &str = "check, file_check, recheck, read, cdhash, find";
-const EVERY: &str = "check, file_check, file_read, recheck, read, cdhash, find";
-const READING: &str = "check, file_check, recheck, read, cdhash";
-const BOTH: &str = "check, file_check, recheck";
-const CHECK: &str = "check, file_check";
-const APART: &str = "check";
-const WALK: &str = "file_check, file_read";
-const FILE: &str = "file_check";
+const ALL: &str = "check, recheck, read, cdhash, find";
+const READING: &str = "check, recheck, read, cdhash";
+const BOTH: &str = "check, recheck";
+const CHECK: &str = "check";
 const RECHECK: &str = "recheck";
 
 const POSITION: &str = "position in the SuperBlob's index, from 0";
 const SLOT: &str = "special slot";
 const ENTRY: &str = "trust cache entry, from 0";
 const PAGE: &str = "page, from 0";
-const COMMAND: &str = "the load command's position, from 0";
 
 const fn rule(
     number: u32,
@@ -61,34 +56,34 @@ const fn rule(
 pub static RULES: &[Rule] = &[
     rule(0, "every test of the call passes",
         "every test of the call passes",
-        "in a whole check the trust cache entry that lists the directory's hash, from 0", EVERY),
+        "in a whole check the trust cache entry that lists the directory's hash, from 0", ALL),
     rule(1, "the signature, or a side file that is there, has a length outside the limits",
         "the signature is under 12 or over 67,108,864 bytes, or in a whole check a side file (Info.plist, CodeResources) that is there is over 4,194,304 bytes",
-        "", FINDING),
+        "", ALL),
     rule(2, "the signature does not start with the SuperBlob magic",
         "the SuperBlob magic is not 0xFADE0CC0",
-        "", FINDING),
+        "", ALL),
     rule(3, "the SuperBlob lists no blob or too many",
         "the SuperBlob's count is 0 or over 64",
-        "", FINDING),
+        "", ALL),
     rule(4, "the SuperBlob's length does not fit its index or the signature's bytes",
         "the SuperBlob's length is below 12 + 8 * count or above the length of the lent signature",
-        "", FINDING),
+        "", ALL),
     rule(5, "the slot type at index position {place} is not known",
         "a slot type in the index is not 0, 2, 5, 7 to 11, 0x1000 to 0x1004 or 0x10000",
-        POSITION, FINDING),
+        POSITION, ALL),
     rule(6, "the slot type at index position {place} stands at an earlier position too",
         "a slot type is already at an earlier position of the index",
-        POSITION, FINDING),
+        POSITION, ALL),
     rule(7, "the blob at index position {place} does not lie inside the SuperBlob",
         "a blob's offset is below 12 + 8 * count, its 8-byte head or its whole length is not inside the SuperBlob, or its length is under 8",
-        POSITION, FINDING),
+        POSITION, ALL),
     rule(8, "the blob at index position {place} does not have its type's magic",
         "a blob's magic is not the one of its slot type",
-        POSITION, FINDING),
+        POSITION, ALL),
     rule(9, "the blob at index position {place} shares bytes with one at an earlier position",
         "a blob shares a byte with a blob at an earlier position of the index",
-        POSITION, FINDING),
+        POSITION, ALL),
     rule(10, "the signature has no code directory",
         "no blob has slot type 0",
         "", READING),
@@ -117,8 +112,8 @@ pub static RULES: &[Rule] = &[
         "the identifier starts before the end of the directory's head, or no zero byte follows it in the directory",
         "", READING),
     rule(19, "the image is shorter than the directory's code limit",
-        "the image has fewer bytes than the code limit: codeLimit64 where it is present (version 0x20300 and up) and not 0, else codeLimit; in a check of a whole file 41 is given instead",
-        "", APART),
+        "the image has fewer bytes than the code limit: codeLimit64 where it is present (version 0x20300 and up) and not 0, else codeLimit",
+        "", CHECK),
     rule(20, "the marks are not one byte for each page",
         "the marks buffer does not have nCodeSlots bytes",
         "", BOTH),
@@ -167,24 +162,6 @@ pub static RULES: &[Rule] = &[
     rule(35, "the directory has a scatterOffset that is not 0",
         "scatterOffset, the four bytes at 44, is present (version 0x20100 and up) and not 0: its code slots do not cover the image from byte 0 upward; tested after 15 and before 16",
         "", READING),
-    rule(36, "the file is not a 64-bit little-endian Mach-O file",
-        "the file is under 32 bytes, or its magic, the first four bytes as a little-endian number, is not 0xFEEDFACF; tested before 1, as 37 to 40 are",
-        "", WALK),
-    rule(37, "load command {place} is malformed, past the command area or the file, or one more than the 4,096 that are read",
-        "a load command's size is under 8 or no multiple of 8, or its 8-byte head or its whole size reaches past the stated command area (32 + sizeofcmds) or the file; or the stated count is above 4,096, and then no command is read",
-        "the load command's position, from 0; 4,096 where the count is above it", WALK),
-    rule(38, "the file has no LC_CODE_SIGNATURE: it is not signed",
-        "no load command is LC_CODE_SIGNATURE (0x1D)",
-        "", WALK),
-    rule(39, "load command {place} is a second LC_CODE_SIGNATURE, or one of another size than 16",
-        "a load command is LC_CODE_SIGNATURE (0x1D), and one stands at an earlier position or its size is not 16",
-        COMMAND, WALK),
-    rule(40, "the signature that load command {place} names reaches past the file",
-        "dataoff + datasize of LC_CODE_SIGNATURE, as a whole number that never wraps, is above the file's length",
-        COMMAND, WALK),
-    rule(41, "the signature that load command {place} names does not start at the directory's code limit",
-        "dataoff of LC_CODE_SIGNATURE is not the code limit: codeLimit64 where it is present (version 0x20300 and up) and not 0, else codeLimit; tested after 18 and before 20. dataoff has 32 bits, so that a code limit above 4,294,967,295 never passes: such an image is lent apart (--signature and --image)",
-        COMMAND, FILE),
     rule(46, "the directory's flags hold a bit that is not allowed",
         "flags hold a bit outside CS_ALLOWED_MACHO, 0x33F02: CS_ADHOC 0x2, CS_HARD 0x100, CS_KILL 0x200, CS_CHECK_EXPIRATION 0x400, CS_RESTRICT 0x800, CS_ENFORCEMENT 0x1000, CS_REQUIRE_LV 0x2000, CS_RUNTIME 0x10000, CS_LINKER_SIGNED 0x20000; tested after 14 and before 15",
         "", READING),

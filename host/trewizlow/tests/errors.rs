@@ -37,50 +37,11 @@ fn usage_of_check() {
         (&["--help=1"], "--help takes no value"),
         (&["--version"], "no option \"--version\""),
         (&["--start", "0"], "no option \"--start\""),
-        (&["word"], "\"word\" is checked whole, and --signature names a part"),
+        (&["word"], "\"word\" belongs to no option"),
     ];
     for (tail, sentence) in tails {
         wrong(&[&good[..], tail].concat(), sentence);
     }
-}
-
-/// A whole file, or its parts, and not both.
-#[test]
-fn usage_of_check_of_a_file() {
-    let [file, cache, signature] = ["hello", "hello.cache", "signature.bin"].map(sample);
-    let good = scratch::check_file(&file, &cache);
-    assert_eq!(run(&good).0, 0);
-    let tails: [(&[&str], &str); 4] = [
-        (&["--signature", &signature], "is checked whole, and --signature names a part"),
-        (&["--image", &file], "is checked whole, and --image names a part"),
-        (&["--signature", &signature, "--image", &file], "is checked whole, and --signature"),
-        (&[&file, "--image", &file], "is checked whole, and --image names a part"),
-    ];
-    for (tail, sentence) in tails {
-        wrong(&[&good[..], tail].concat(), &format!("{file:?} {sentence}"));
-    }
-    wrong(&[&good[..], &[&file]].concat(), "check wants one Mach-O file");
-    wrong(&["check", "--cache", &cache], "check wants a Mach-O file, or --signature and --image");
-    wrong(&["check", &file], "--cache is missing");
-}
-
-#[test]
-fn usage_of_extract() {
-    let scratch = Scratch::new("usage-extract");
-    let (file, out) = (sample("hello"), scratch.path("out"));
-    let other = format!("{}/./out", scratch.0.display());
-    let lists: [(&[&str], &str); 6] = [
-        (&["--signature", &out], "extract wants one Mach-O file"),
-        (&[&file, &file, "--signature", &out], "extract wants one Mach-O file"),
-        (&[&file], "extract wants --signature or --image, or both"),
-        (&[&file, "--cache", &out], "no option \"--cache\""),
-        (&[&file, "--signature", &out, "--image", &out], "the outputs"),
-        (&[&file, "--signature", &out, "--image", &other], "the outputs"),
-    ];
-    for (list, sentence) in lists {
-        wrong(&[&["extract"], list].concat(), sentence);
-    }
-    assert_eq!(scratch.names(), [""; 0]);
 }
 
 #[test]
@@ -113,8 +74,8 @@ fn usage_of_the_others() {
         (&["--version", "check"], "\"check\" belongs to no option"),
         (&["help", "chek"], "no command \"chek\""),
         (&["help", "check", "show"], "help wants one command"),
-        (&["show"], "show wants one Mach-O file or signature"),
-        (&["show", &signature, &signature], "show wants one Mach-O file or signature"),
+        (&["show"], "show wants one signature file"),
+        (&["show", &signature, &signature], "show wants one signature file"),
         (&["show", "--verbose", &signature], "no option \"--verbose\""),
         (&["explain", "1", "2"], "explain wants one number"),
     ];
@@ -180,10 +141,7 @@ fn directories() {
         list[at] = &directory;
         lists.push(list);
     }
-    let (cache, out) = (sample("hello.cache"), scratch.path("out"));
     lists.push(vec!["show", &directory]);
-    lists.push(scratch::check_file(&directory, &cache));
-    lists.push(vec!["extract", &directory, "--image", &out]);
     for list in lists {
         let sentence = format!("cannot read {directory:?}: is a directory");
         wrong(&list, &sentence);
@@ -204,6 +162,42 @@ fn empty_and_long_files() {
     let (status, out, err) = check(&sample("signature.bin"), &empty);
     assert!(status == 1 && out.starts_with("19 0 refused: "));
     assert!(err.contains("is empty"));
+}
+
+fn words(words: [u32; 2]) -> Vec<u8> {
+    words.into_iter().chain([0; 14]).flat_map(u32::to_be_bytes).collect()
+}
+
+/// A Mach-O file in the place of its signature is refused; a note says what has to be done.
+#[test]
+fn macho_files() {
+    let scratch = Scratch::new("macho");
+    let magics = [0xFEED_FACE_u32, 0xFEED_FACF, 0xCEFA_EDFE, 0xCFFA_EDFE];
+    let kinds = magics.map(|magic| (magic, "is a Mach-O file"));
+    for (magic, kind) in
+        kinds.into_iter().chain([0xCAFE_BABE, 0xCAFE_BABF].map(|magic| (magic, "is a universal")))
+    {
+        let file = scratch.file("file", &words([magic, 2]));
+        let runs = [run(&["show", &file]), check(&file, &sample("image.bin"))];
+        for (status, out, err) in runs {
+            assert!(status == 1 && out.starts_with("2 0 refused: "));
+            assert!(err.contains(kind) && err.contains("cut out first") && err.contains("README"));
+        }
+    }
+    assert_eq!(run(&["show", &sample("signature.bin")]).2, "");
+}
+
+/// A Java class file has the magic of a universal file, and then its version: 45.0 was the
+/// first.
+#[test]
+fn java_class_files() {
+    let scratch = Scratch::new("java");
+    for (next, universal) in [(44, true), (45, false), (52, false), (0x3_0000 + 45, false)] {
+        let file = scratch.file("file", &words([0xCAFE_BABE, next]));
+        let (status, out, err) = run(&["show", &file]);
+        assert!(status == 1 && out.starts_with("2 0 refused: "));
+        assert_eq!(err.contains("is a universal file"), universal, "{next}");
+    }
 }
 
 /// A reader that goes away is neither a panic nor a signal.

@@ -20,10 +20,7 @@ use std::path::Path;
 
 use both::{bytes_line, calls_c, lines, Both, Recheck};
 use compile::{c, cpp, in_repository, installed, run};
-use inputs::{
-    plan, refused, refused_files, whole_checks, whole_file, ABSENT, BEFORE, BLOBS, DIRECTORY,
-    IMAGE_BYTES, SIGNATURE_BYTES,
-};
+use inputs::{plan, refused, whole_checks, ABSENT, BEFORE, BLOBS, DIRECTORY};
 use reference::launch::Launch as Facts;
 use reference::sha256::digest;
 use scratch::{sample, Scratch};
@@ -52,10 +49,8 @@ fn interface_number() {
 
 /// The SHA-256 of the header's declarations under each interface number. A line that stands
 /// here is not changed.
-const INTERFACES: [(u32, &str); 2] = [
-    (1, "966c148388ee41310358b04481e1dc0786e28d74f289a0b20d0cfb331de6f618"),
-    (2, "e2369cbe7c1e13fdccb4c670f80f759dd2dee05865795fdbcc5d22eed9e45fcc"),
-];
+const INTERFACES: [(u32, &str); 1] =
+    [(1, "966c148388ee41310358b04481e1dc0786e28d74f289a0b20d0cfb331de6f618")];
 
 fn digest_of_declarations(header: &str) -> String {
     digest(declarations(header).as_bytes()).map(|byte| format!("{byte:02x}")).concat()
@@ -149,27 +144,6 @@ fn checks() {
     }
 }
 
-/// Where the signature lies in a file, and each refusal of the walk with its place; the whole
-/// check of the file is that of its parts.
-#[test]
-fn files() {
-    let both = Both::new("files");
-    let range = |start, length| lines(&[("start", start), ("length", length)]);
-    let found = lines(&ACCEPTED) + &range(IMAGE_BYTES as u64, SIGNATURE_BYTES);
-    both.file_read(&whole_file(&plan()), &found);
-    let marks = [BEFORE; 3];
-    for (number, place, file) in refused_files() {
-        if number < 41 {
-            both.file_read(&file, &(answer(number, place) + &range(0, 0)));
-        }
-        both.file_check(&file, &plan().build(), &marks, &with_marks(number, place, &marks));
-    }
-    for whole in whole_checks() {
-        let after = with_marks(whole.number, whole.place, &whole.marks);
-        both.file_check(&whole_file(&whole.plan), &whole.plan.build(), &marks, &after);
-    }
-}
-
 /// Start and length exchanged would meet other pages; either may be above 32 bits.
 #[test]
 fn rechecks() {
@@ -236,8 +210,6 @@ fn names_of_parameters() {
         ("signature.rs", "trewizlow_find"),
         ("signature.rs", "trewizlow_read"),
         ("signature.rs", "trewizlow_cdhash"),
-        ("file.rs", "trewizlow_file_read"),
-        ("file.rs", "trewizlow_file_check"),
     ];
     for (file, function) in functions {
         let rust = read_to_string(in_repository("host/trewizlow/src").join(file)).unwrap();
@@ -293,7 +265,7 @@ fn readme_block() {
     assert!(!rest.contains("```c\n"), "one C block");
     let block = scratch.file("readme.c", block.as_bytes());
     let main = in_repository("host/trewizlow/tests/header/readme.c");
-    let files = ["hello", "hello-damaged", "hello.cache"].map(sample);
+    let files = ["signature.bin", "image.bin", "image-damaged.bin", "cache.bin"].map(sample);
     let words = files.each_ref().map(String::as_str);
     for compiler in [c("-std=c99"), c("-std=c11"), cpp("-std=c++11"), cpp("-std=c++17")] {
         compiler.build(&[Path::new(&block), &main], &scratch.path("readme"));
@@ -306,13 +278,13 @@ fn example_host() {
     let scratch = Scratch::new("header-example");
     let program = scratch.path("host");
     c("-std=c99").build(&[&in_repository("examples/host.c")], &program);
-    let cache = sample("hello.cache");
-    let host = |file: &str| run(&program, &[file, &cache]);
-    let lines = "check: number 0, place 0\nrecheck of page 0: number 0, place 0\n";
-    assert_eq!(host(&sample("hello")), (0, lines.into()));
-    let lines = "check: number 31, place 0\nrecheck of page 0: number 31, place 0\n";
-    assert_eq!(host(&sample("hello-damaged")), (1, lines.into()));
-    let lines = "check: number 36, place 0\n";
+    let (signature, cache) = (sample("signature.bin"), sample("cache.bin"));
+    let host = |image: &str| run(&program, &[&signature, image, &cache]);
+    let lines = "check: number 0, place 6\nrecheck of page 0: number 0, place 0\n";
+    assert_eq!(host(&sample("image.bin")), (0, lines.into()));
+    let lines = "check: number 31, place 1\nrecheck of page 0: number 31, place 1\n";
+    assert_eq!(host(&sample("image-damaged.bin")), (1, lines.into()));
+    let lines = "check: number 19, place 0\n";
     assert_eq!(host(&scratch.file("empty", b"")), (1, lines.into()));
     assert_eq!(host(&scratch.path("missing")), (2, "".into()));
     assert_eq!(run(&program, &[]), (2, "".into()));

@@ -29,15 +29,18 @@ fn valued(command: &str) -> Vec<String> {
 }
 
 /// No option's value is help. Where a file of that name is there, it is the file that is lent.
-fn values_are_no_help(scratch: &Scratch, list: &[&str], made: &[&str]) {
+fn values_are_no_help(scratch: &Scratch, list: &[&str], made: &str) {
     let options = valued(list[0]);
     assert_eq!(options.len(), list.iter().filter(|word| word.starts_with("--")).count());
     for (option, value) in options.iter().flat_map(|option| [(option, "--help"), (option, "-h")]) {
         for (status, out, _) in exchanged(scratch, list, option, value) {
             let answered = out.starts_with("0 ");
             assert!(!out.contains("usage"), "{option} {value}");
-            let made = made.contains(&option.as_str());
-            assert_eq!((status == 0, answered), (made, made), "{option} {value}");
+            assert_eq!(
+                (status == 0, answered),
+                (option == made, option == made),
+                "{option} {value}"
+            );
         }
         let at = list.iter().position(|word| word == option).unwrap();
         let _ = copy(list[at + 1], scratch.0.join(value));
@@ -63,7 +66,7 @@ fn values_of_check() {
     list.extend(["--info-plist", &info, "--code-resources", &resources, "--marks", &marks]);
     list.extend(["--launch-type", "0", "--validation-category", "0"]);
     assert_eq!(run(&list).0, 0);
-    values_are_no_help(&scratch, &list, &["--marks"]);
+    values_are_no_help(&scratch, &list, "--marks");
 }
 
 #[test]
@@ -74,16 +77,7 @@ fn values_of_recheck() {
     let marks = scratch.file("marks", &[0, 0, 0]);
     let list = recheck(&signature, ["0", "1"], &page, &marks);
     assert_eq!(run(&list).0, 0);
-    values_are_no_help(&scratch, &list, &[]);
-}
-
-#[test]
-fn values_of_extract() {
-    let scratch = Scratch::new("help-extract");
-    let (hello, signature, image) = (sample("hello"), scratch.path("one"), scratch.path("other"));
-    let list = ["extract", &hello, "--signature", &signature, "--image", &image];
-    assert_eq!(run(&list).0, 0);
-    values_are_no_help(&scratch, &list, &["--signature", "--image"]);
+    values_are_no_help(&scratch, &list, "none");
 }
 
 /// Behind `--` there are words alone.
@@ -102,7 +96,7 @@ fn words_are_no_help() {
 
 #[test]
 fn help_that_is_asked_for() {
-    for command in ["check", "recheck", "show", "extract", "explain"] {
+    for command in ["check", "recheck", "show", "explain"] {
         let title = format!("usage: trewizlow {command}");
         for list in [&[command, "--help"][..], &[command, "--json", "-h"], &["help", command]] {
             let (status, out, err) = run(list);

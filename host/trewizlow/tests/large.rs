@@ -6,7 +6,6 @@ mod terminal;
 
 use std::fs::{self, File, OpenOptions};
 use std::io::Write;
-use std::os::unix::fs::FileExt;
 use std::os::unix::process::ExitStatusExt;
 use std::process::{Child, Command, Stdio};
 use std::thread::sleep;
@@ -14,9 +13,7 @@ use std::time::{Duration, Instant};
 
 use reference::inputs::{Inputs, InputsPlan};
 use reference::make::DirectoryPlan;
-use scratch::{
-    check, check_file, ended, limited, recheck, sample, tool, Run, Scratch, ACCEPTED, TOOL,
-};
+use scratch::{check, ended, limited, recheck, sample, tool, Run, Scratch, ACCEPTED, TOOL};
 
 const MIB: u64 = 1 << 20;
 const HUGE: u64 = 64 << 30;
@@ -73,30 +70,6 @@ fn decide_first(limit: u64) {
     let (status, out, err) = run_with_little(&check(&signature, &image, &missing));
     assert_eq!((status, out.as_str()), (2, ""));
     assert!(err.contains("cannot read") && err.contains("missing"), "{err}");
-}
-
-/// The largest file whose signature a load command can name: where it is refused, or only its
-/// signature is wanted, no page of it is read.
-#[test]
-fn whole_files() {
-    let scratch = Scratch::new("whole");
-    let limit = u32::MAX;
-    let inputs = zeros(limit.into(), 0);
-    let length = inputs.signature.len() as u32;
-    let words = [0xFEED_FACF, 0, 0, 2, 1, 16, 0, 0, 0x1D, 16, limit, length];
-    let path = scratch.sparse("file", limit.into());
-    let file = OpenOptions::new().write(true).open(&path).unwrap();
-    file.write_all_at(&words.map(u32::to_le_bytes).concat(), 0).unwrap();
-    file.write_all_at(&inputs.signature, limit.into()).unwrap();
-    let empty = scratch.file("cache", &reference::make::CachePlan::new(Vec::new()).bytes());
-    let (status, out, err) = run_with_little(&check_file(&path, &empty));
-    assert!(status == 1 && out.starts_with("26 0 refused: "), "{out} {err}");
-    let (status, out, err) = run_with_little(&["show", &path]);
-    let found = format!("Mach-O: signature at {limit}, {length} bytes (load command 0)\n");
-    assert!(status == 0 && out.starts_with(&found), "{out} {err}");
-    let signature = scratch.path("signature");
-    assert_eq!(run_with_little(&["extract", &path, "--signature", &signature]).0, 0);
-    assert_eq!(scratch.read("signature"), inputs.signature);
 }
 
 /// Of an image only the bytes below the code limit are read, from a file and from a pipe.
@@ -287,7 +260,7 @@ fn progress_of_waiting() {
     held.lock().unwrap();
     let list = recheck(&signature, ["0", "0"], &pages, &marks);
     let text = shown(&list, || held.unlock().unwrap());
-    let line = format!("{CLEAR}trewizlow: waiting for another run to release \"/");
+    let line = format!("{CLEAR}trewizlow: waiting for another run to release the marks, ");
     assert!(text.starts_with(&line) && text.ends_with(CLEAR), "{text:?}");
     assert!(!text.contains('\n'), "{text:?}");
 }

@@ -9,7 +9,7 @@ use std::process::Command;
 
 use scratch::{check_to, ended, recheck_of, Run, Scratch, ACCEPTED};
 
-const CANNOT: &str = "cannot write";
+const CANNOT: &str = "cannot write the marks to";
 
 fn done(scratch: &Scratch, mut command: Command) -> Run {
     ended(command.current_dir(&scratch.0).output().unwrap())

@@ -3,13 +3,7 @@
 
 mod scene;
 
-use compare::facts;
-use reference::inputs::file::FileInputs;
-use reference::macho;
-use reference::make::macho::MachPlan;
-use reference::make::put64;
 use scene::{little_memory, Scene, EDGE};
-use trewizlow::{file_check, file_read, LentFile};
 
 /// 2^32 + 1 bytes in pages of 16 KiB: the last page is one byte, and starts at 2^32.
 #[test]
@@ -73,48 +67,5 @@ fn most_pages() {
     scene.turn(middle);
     scene.turn(last);
     assert_eq!(scene.recheck(middle, EDGE / 2), (0, 0));
-    little_memory();
-}
-
-/// What both say of a file: where its signature lies, and the number and the place of its check.
-fn file_said(inputs: &FileInputs) -> ((u64, u64), (u32, u64)) {
-    let (ours, found) = (file_read(&inputs.file), macho::read(&inputs.file));
-    assert_eq!((ours.start as u64, ours.length as u64), (found.start, found.length));
-    let lent = LentFile {
-        launch: facts(&inputs.apart.launch),
-        ..LentFile::new(&inputs.file, &inputs.apart.cache)
-    };
-    let mut marks = vec![7; inputs.apart.pages];
-    let verdict = file_check(&lent, &mut marks);
-    let (answer, after) = inputs.check(7);
-    assert_eq!((verdict.number, verdict.place as u64), (answer.number, answer.place));
-    assert!(marks == after, "the marks differ");
-    ((found.start, found.length), (answer.number, answer.place))
-}
-
-/// A file whose signature starts at 2^32 - 1, the last offset that a command can state, and ends
-/// above 2^32.
-#[test]
-fn last_offset_of_a_file() {
-    let start = EDGE - 1;
-    let length = Scene::new(start, 14, &[0]).inputs.signature.len();
-    let mut image = vec![0; start as usize];
-    let head = MachPlan::common().bytes(u32::MAX, length as u32);
-    image[..head.len()].copy_from_slice(&head);
-    let mut apart = Scene::of(image, 14, &[0]).inputs;
-    let mut file = std::mem::take(&mut apart.image);
-    file.extend_from_slice(&apart.signature);
-    let mut inputs = FileInputs { file, apart };
-    let range = (start, length as u64);
-    assert_eq!(file_said(&inputs), (range, (0, 0)));
-    inputs.apart.pages += 1;
-    assert_eq!(file_said(&inputs), (range, (20, 0)));
-    // The directory is the first blob, behind one index entry. A code limit of 2^32 has as many
-    // pages, and no command can state it.
-    let limit = start as usize + 20 + 56;
-    put64(&mut inputs.file, limit, EDGE);
-    assert_eq!(file_said(&inputs), (range, (41, 2)));
-    inputs.file.pop();
-    assert_eq!(file_said(&inputs), ((0, 0), (40, 2)));
     little_memory();
 }

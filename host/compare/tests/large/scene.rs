@@ -26,18 +26,12 @@ impl Scene {
     pub fn new(length: u64, page_shift: u8, ones: &[u64]) -> Scene {
         let mut image = vec![0; length as usize];
         ones.iter().for_each(|&at| image[at as usize] = 1);
-        Scene::of(image, page_shift, ones)
-    }
-
-    /// An image with bytes that are not 0 in the pages of these places alone, signed as it is.
-    pub fn of(image: Vec<u8>, page_shift: u8, written: &[u64]) -> Scene {
-        let length = image.len() as u64;
         let page = if page_shift == 0 { length } else { 1 << page_shift };
         let mut plan = InputsPlan::new(0x20400, Vec::new(), page_shift);
         plan.directory = DirectoryPlan {
             code_limit: u32::try_from(length).unwrap_or(u32::MAX),
             code_limit64: length,
-            code: slots(&plan.directory, &image, page as usize, written),
+            code: slots(&plan.directory, &image, page as usize, ones),
             ..plan.directory
         };
         let inputs = Inputs { image, ..plan.build() };
@@ -112,16 +106,15 @@ impl Scene {
     }
 }
 
-/// The digests of the pages: one for all of zeros, and one for each that has another byte or is
-/// short.
-fn slots(plan: &DirectoryPlan, image: &[u8], page: usize, written: &[u64]) -> Vec<Slot> {
+/// The digests of the pages: one for all of zeros, and one for each that has a 1 or is short.
+fn slots(plan: &DirectoryPlan, image: &[u8], page: usize, ones: &[u64]) -> Vec<Slot> {
     let digest = |part: &[u8]| plan.digest(part);
     let count = image.len().div_ceil(page);
     if count == 1 {
         return vec![timed("reference's digest", || digest(image))];
     }
     let mut slots = vec![digest(&vec![0; page]); count];
-    for i in written.iter().map(|&at| at as usize / page).chain([count - 1]) {
+    for i in ones.iter().map(|&at| at as usize / page).chain([count - 1]) {
         slots[i] = digest(&image[page * i..image.len().min(page * (i + 1))]);
     }
     slots

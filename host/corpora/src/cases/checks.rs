@@ -3,14 +3,16 @@
 use reference::directory::read;
 use reference::inputs::{Inputs, InputsPlan, SYSTEM_SERVICE};
 use reference::kinds::CS_HASHTYPE_SHA256;
+use reference::launch::Launch;
 use reference::make::blob_of;
 use reference::pages;
+use reference::recheck::Range;
 
-use super::call::Call;
-use crate::case::Case;
+use super::{facts, SideFile};
+use crate::case::{operation, Case, CACHE, FACTS, IMAGE, INFO, MARKS, RANGE, RESOURCES, SIGNATURE};
 
-pub(super) mod chains;
-pub(super) mod faults;
+mod chains;
+mod faults;
 mod flags;
 mod fours;
 mod kinds;
@@ -19,6 +21,32 @@ mod pairs;
 mod rechecks;
 mod scatter;
 mod whole;
+
+/// What a call is.
+#[derive(Clone, Copy, Debug, PartialEq, Eq)]
+pub enum Kind {
+    WholeCheck,
+    Recheck,
+    /// A recheck with the marks that the call before it left.
+    RecheckAfter,
+}
+
+/// One call. What its kind does not use is empty or 0.
+#[derive(Clone, Debug)]
+pub struct Call {
+    pub name: String,
+    pub kind: Kind,
+    pub start: u64,
+    pub length: u64,
+    pub signature: Vec<u8>,
+    /// The image of a whole check, the lent pages of a recheck.
+    pub bytes: Vec<u8>,
+    pub cache: Vec<u8>,
+    pub info: SideFile,
+    pub resources: SideFile,
+    pub launch: Launch,
+    pub marks: Vec<u8>,
+}
 
 /// All calls.
 pub fn cases() -> Vec<Call> {
@@ -40,8 +68,74 @@ pub fn corpus() -> Vec<Case> {
     cases().into_iter().map(Call::case).collect()
 }
 
+impl Call {
+    /// A whole check of these inputs, its marks holding `before`.
+    fn whole(name: impl Into<String>, inputs: &Inputs, before: u8) -> Call {
+        Call {
+            name: name.into(),
+            kind: Kind::WholeCheck,
+            start: 0,
+            length: 0,
+            signature: inputs.signature.clone(),
+            bytes: inputs.image.clone(),
+            cache: inputs.cache.clone(),
+            info: SideFile::of(inputs.info.clone()),
+            resources: SideFile::of(inputs.resources.clone()),
+            launch: inputs.launch,
+            marks: vec![before; inputs.pages],
+        }
+    }
+
+    /// A recheck with the signature of these inputs.
+    fn recheck(name: impl Into<String>, inputs: &Inputs, range: &Range, marks: &[u8]) -> Call {
+        Call {
+            kind: Kind::Recheck,
+            start: range.start,
+            length: range.length,
+            bytes: range.bytes.to_vec(),
+            cache: Vec::new(),
+            info: SideFile::default(),
+            resources: SideFile::default(),
+            launch: Launch::default(),
+            marks: marks.to_vec(),
+            ..Call::whole(name, inputs, 0)
+        }
+    }
+
+    /// A whole check and a recheck with one signature.
+    fn both(calls: &mut Vec<Call>, name: &str, inputs: &Inputs, range: &Range, marks: &[u8]) {
+        calls.push(Call::whole(format!("check, {name}"), inputs, 5));
+        calls.push(Call::recheck(format!("recheck, {name}"), inputs, range, marks));
+    }
+
+    /// A recheck that goes on with the marks of the call before.
+    fn next(name: impl Into<String>, inputs: &Inputs, range: &Range) -> Call {
+        Call { kind: Kind::RecheckAfter, ..Call::recheck(name, inputs, range, &[]) }
+    }
+
+    fn case(self) -> Case {
+        let mut fields = vec![(SIGNATURE, self.signature), (IMAGE, self.bytes)];
+        if self.kind == Kind::WholeCheck {
+            let facts = facts(self.info.there, self.resources.there, &self.launch);
+            fields.push((CACHE, self.cache));
+            fields.extend(self.info.field().map(|bytes| (INFO, bytes)));
+            fields.extend(self.resources.field().map(|bytes| (RESOURCES, bytes)));
+            fields.push((FACTS, facts));
+        } else {
+            let range = [self.start.to_be_bytes(), self.length.to_be_bytes()].concat();
+            fields.push((RANGE, range));
+        }
+        if self.kind != Kind::RecheckAfter {
+            fields.push((MARKS, self.marks));
+        }
+        let whole = self.kind == Kind::WholeCheck;
+        let operation = if whole { operation::CHECK } else { operation::RECHECK };
+        Case { name: self.name, operation, fields }
+    }
+}
+
 /// An image whose pages are runs of different bytes, so that the corpus stays small.
-pub(super) fn striped(length: usize) -> Vec<u8> {
+fn striped(length: usize) -> Vec<u8> {
     (0..length).map(|i| 0x30 + (i / 4096) as u8).collect()
 }
 

@@ -6,7 +6,7 @@ use std::ops::Range;
 use std::path::PathBuf;
 
 use reference::inputs::Inputs;
-use trewizlow::{Launch, Lent, LentFile};
+use trewizlow::{Launch, Lent};
 
 use crate::compile::{c, in_repository, run};
 use crate::scratch::Scratch;
@@ -113,54 +113,22 @@ impl Both {
         let verdict = trewizlow::check(&lent, &mut written);
         let rust = lines_of!(verdict: number, place) + &bytes_line("marks", &written);
         assert_eq!(rust, expected);
+        assert_eq!(self.through_header(&self.words_of_check(&lent, marks)), expected);
+    }
+
+    fn words_of_check(&self, lent: &Lent, marks: &[u8]) -> Vec<String> {
+        let side = |name, file: Option<&[u8]>| file.map_or("-".into(), |f| self.file(name, f));
         let mut words = vec![
             "check".to_string(),
             self.file("signature", lent.signature),
             self.file("image", lent.image),
             self.file("marks", marks),
+            self.file("cache", lent.cache),
+            side("info", lent.info_plist),
+            side("resources", lent.code_resources),
         ];
-        words.extend(self.words_beside(inputs));
-        assert_eq!(self.through_header(&words), expected);
-    }
-
-    /// What a whole check is lent beside image, signature and marks.
-    fn words_beside(&self, inputs: &Inputs) -> Vec<String> {
-        let side = |name, file: &Option<Vec<u8>>| {
-            file.as_ref().map_or("-".into(), |bytes| self.file(name, bytes))
-        };
-        let mut words = vec![
-            self.file("cache", &inputs.cache),
-            side("info", &inputs.info),
-            side("resources", &inputs.resources),
-        ];
-        words.extend(words_of(&compare::facts(&inputs.launch)));
+        words.extend(words_of(&lent.launch));
         words
-    }
-
-    pub fn file_read(&self, file: &[u8], expected: &str) {
-        let found = trewizlow::file_read(file);
-        let rust = lines_of!(found: answer.number, answer.place, start, length);
-        assert_eq!(rust, expected);
-        let words = ["file_read", &self.file("file", file)];
-        assert_eq!(self.through_header(&words), expected);
-    }
-
-    /// A whole file, and the rest of what the parts are lent with.
-    pub fn file_check(&self, file: &[u8], inputs: &Inputs, marks: &[u8], expected: &str) {
-        let lent = LentFile {
-            info_plist: inputs.info.as_deref(),
-            code_resources: inputs.resources.as_deref(),
-            launch: compare::facts(&inputs.launch),
-            ..LentFile::new(file, &inputs.cache)
-        };
-        let mut written = marks.to_vec();
-        let verdict = trewizlow::file_check(&lent, &mut written);
-        let rust = lines_of!(verdict: number, place) + &bytes_line("marks", &written);
-        assert_eq!(rust, expected);
-        let mut words =
-            vec!["file_check".to_string(), self.file("file", file), self.file("marks", marks)];
-        words.extend(self.words_beside(inputs));
-        assert_eq!(self.through_header(&words), expected);
     }
 
     /// `pages` are the bytes of the image that are lent, `marks` those before the recheck.

@@ -126,29 +126,6 @@ static void cdhash(char **words)
     print_bytes("hash", answer.hash, sizeof answer.hash);
 }
 
-static void file_read(char **words)
-{
-    part whole = file(words[0]);
-    trewizlow_file_signature answer = trewizlow_file_read(whole.bytes, whole.length);
-    PRINT(answer, number);
-    PRINT(answer, place);
-    PRINT(answer, start);
-    PRINT(answer, length);
-}
-
-static void file_check(char **words)
-{
-    part whole = file(words[0]), marks = file(words[1]), cache = file(words[2]);
-    part info = file(words[3]), resources = file(words[4]);
-    trewizlow_verdict answer = trewizlow_file_check(
-        whole.bytes, whole.length, marks.bytes, marks.length, cache.bytes, cache.length,
-        info.there, info.bytes, info.length, resources.there, resources.bytes, resources.length,
-        facts(words + 5));
-    PRINT(answer, number);
-    PRINT(answer, place);
-    print_bytes("marks", marks.bytes, marks.length);
-}
-
 static void launch(char **words)
 {
     trewizlow_launch launch = facts(words);
@@ -167,9 +144,9 @@ static const struct {
     int words;
     void (*call)(char **words);
 } calls[] = {
-    {"check", 11, check},          {"recheck", 5, recheck},       {"find", 2, find},
-    {"read", 1, read_directory},   {"cdhash", 1, cdhash},         {"launch", 5, launch},
-    {"file_read", 1, file_read},   {"file_check", 10, file_check}, {"interface", 0, interface},
+    {"check", 11, check},          {"recheck", 5, recheck}, {"find", 2, find},
+    {"read", 1, read_directory},   {"cdhash", 1, cdhash},   {"launch", 5, launch},
+    {"interface", 0, interface},
 };
 
 int main(int argc, char **argv)

@@ -4,34 +4,11 @@ use reference::inputs::{InputsPlan, SYSTEM_SERVICE};
 use reference::make::{blob_of, put32, SignaturePlan};
 
 /// Two pages of 4,096 bytes and one of 1,809.
-pub const IMAGE_BYTES: usize = 10_001;
-
-/// What the image starts with: a Mach-O header and two load commands, of which the second,
-/// LC_CODE_SIGNATURE, names what comes behind the image.
-const HEADER: [u32; 14] = [
-    0xFEED_FACF,
-    0x0100_000C,
-    0,
-    2,
-    2,
-    24,
-    0,
-    0,
-    0x1B,
-    8,
-    0x1D,
-    16,
-    IMAGE_BYTES as u32,
-    SIGNATURE_BYTES as u32,
-];
-/// Where the words of the last command stand.
-const SIZEOFCMDS: usize = 20;
-const COMMAND: usize = 40;
+const IMAGE_BYTES: usize = 10_001;
 
 /// The directory at position 0 of the index, then blobs of types 2, 5, 7 and 0x10000.
 pub fn plan() -> InputsPlan {
-    let mut image: Vec<u8> = (0..IMAGE_BYTES).map(|i| (i * i / 7) as u8).collect();
-    image.splice(..4 * HEADER.len(), HEADER.into_iter().flat_map(u32::to_le_bytes));
+    let image = (0..IMAGE_BYTES).map(|i| (i * i / 7) as u8).collect();
     let mut plan = InputsPlan::new(0x20400, image, 12);
     plan.directory.flags = 0x1_0002;
     plan.directory.platform = 6;
@@ -74,37 +51,6 @@ pub const DIRECTORY: [(&str, u64); 15] = [
 /// The blobs as `plan` lays them down: type, start, length.
 pub const BLOBS: [(u32, u64, u64); 5] =
     [(0, 52, 432), (2, 484, 12), (5, 496, 17), (7, 513, 24), (0x10000, 537, 33)];
-
-/// Where the last of them ends.
-pub const SIGNATURE_BYTES: u64 = 537 + 33;
-
-/// The whole file of a plan.
-pub fn whole_file(plan: &InputsPlan) -> Vec<u8> {
-    let inputs = plan.build();
-    [inputs.image, inputs.signature].concat()
-}
-
-/// A file with the number and the place of its refusal: one for each of tests 36 to 41.
-pub fn refused_files() -> [(u32, usize, Vec<u8>); 6] {
-    let refused = |number, place, words: &[(usize, u32)]| {
-        let mut file = whole_file(&plan());
-        for (at, word) in words {
-            file[*at..at + 4].copy_from_slice(&word.to_le_bytes());
-        }
-        (number, place, file)
-    };
-    let (start, length) = (IMAGE_BYTES as u32, SIGNATURE_BYTES as u32);
-    let mut moved = refused(41, 1, &[(COMMAND + 8, start + 1)]);
-    moved.2.insert(IMAGE_BYTES, 0);
-    [
-        refused(36, 0, &[(0, 0xFEED_FACE)]),
-        refused(37, 1, &[(COMMAND + 4, 12)]),
-        refused(38, 0, &[(COMMAND, 0x8000_001D)]),
-        refused(39, 1, &[(COMMAND + 4, 24), (SIZEOFCMDS, 32)]),
-        refused(40, 1, &[(COMMAND + 12, length + 1)]),
-        moved,
-    ]
-}
 
 /// Types that are known and have no blob in `plan`, then types that are not known.
 pub const ABSENT: [u32; 6] = [8, 0x1000, 1, 6, 0x1_0001, u32::MAX];

@@ -53,11 +53,6 @@ pub fn check<'a>(signature: &'a str, image: &'a str, cache: &'a str) -> Vec<&'a 
     vec!["check", "--signature", signature, "--image", image, "--cache", cache]
 }
 
-/// The arguments of a check of a whole file.
-pub fn check_file<'a>(file: &'a str, cache: &'a str) -> Vec<&'a str> {
-    vec!["check", file, "--cache", cache]
-}
-
 /// The arguments of a recheck of these files.
 pub fn recheck<'a>(
     signature: &'a str,

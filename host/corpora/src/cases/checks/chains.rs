@@ -51,12 +51,7 @@ pub fn one_chain(
 
 /// A recheck of a random range: its pages set right, altered, or as they are; sometimes
 /// turned down. The image of `inputs` is the book's.
-pub fn next_in_chain(
-    name: String,
-    inputs: &mut Inputs,
-    signed: &[u8],
-    random: &mut Random,
-) -> Call {
+fn next_in_chain(name: String, inputs: &mut Inputs, signed: &[u8], random: &mut Random) -> Call {
     let limit = signed.len() as u64;
     let start = random.below(limit + 1);
     let length = *random.pick(&[0, 1, 2, 5000, limit - start, limit - start, limit - start + 1]);

@@ -4,7 +4,7 @@ use std::ffi::OsStr;
 
 use crate::arguments::{Arguments, Names};
 use crate::outcome::Outcome;
-use crate::{check, explain, extract, help, recheck, show};
+use crate::{check, explain, help, recheck, show};
 
 pub struct Command {
     /// Its name, then other names for it.
@@ -14,11 +14,10 @@ pub struct Command {
     pub run: fn(&Arguments) -> Result<Outcome, String>,
 }
 
-static COMMANDS: [Command; 7] = [
+static COMMANDS: [Command; 6] = [
     check::COMMAND,
     recheck::COMMAND,
     show::COMMAND,
-    extract::COMMAND,
     explain::COMMAND,
     help::COMMAND,
     help::VERSION,

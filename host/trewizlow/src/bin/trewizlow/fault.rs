@@ -1,6 +1,6 @@
 //! Signals. SIGBUS, which the system sends where a byte of a mapped file is touched that the
 //! file no longer has or that cannot be read, ends the process with a sentence and status 2.
-//! What ends it by itself, such as an interrupt, first removes the files that it made.
+//! What ends it by itself, such as an interrupt, first removes the file that it made.
 
 use std::ffi::{c_char, c_int, c_void, CString};
 use std::ptr;
@@ -20,10 +20,8 @@ const STANDARD_ERROR: c_int = 2;
 const SENTENCE: &str = "a file changed or could not be read while it was checked";
 
 static JSON: AtomicBool = AtomicBool::new(false);
-/// As many files as a command makes at once.
-const FILES: usize = 2;
-/// The paths of the files that go with the process, or null.
-static REMOVED: [AtomicPtr<c_char>; FILES] = [const { AtomicPtr::new(ptr::null_mut()) }; FILES];
+/// The path of the file that goes with the process, or null.
+static REMOVED: AtomicPtr<c_char> = AtomicPtr::new(ptr::null_mut());
 
 extern "C" {
     fn signal(number: c_int, handler: usize) -> usize;
@@ -44,31 +42,16 @@ fn handle(number: c_int, handler: usize) -> usize {
     unsafe { signal(number, handler) }
 }
 
-/// A file that is removed when a signal ends the process, as long as this lives.
-pub struct Removed(Option<&'static AtomicPtr<c_char>>);
-
-impl Drop for Removed {
-    fn drop(&mut self) {
-        if let Some(place) = self.0 {
-            place.store(ptr::null_mut(), Ordering::Relaxed);
-        }
-    }
-}
-
-/// The few bytes of the path are never freed, since the handler may come at any time.
-pub fn remove(path: CString) -> Removed {
-    let (path, free) = (path.into_raw(), ptr::null_mut());
-    let put = |place: &&AtomicPtr<c_char>| {
-        place.compare_exchange(free, path, Ordering::Relaxed, Ordering::Relaxed).is_ok()
-    };
-    let removed = Removed(REMOVED.iter().find(put));
+/// The file that is removed when a signal ends the process. The few bytes of the path are
+/// never freed, since the handler may come at any time.
+pub fn remove(path: Option<CString>) {
+    REMOVED.store(path.map_or(ptr::null_mut(), CString::into_raw), Ordering::Relaxed);
     for number in ENDING {
         // A signal that is ignored, as under nohup, stays so.
         if handle(number, interrupted as *const () as usize) == SIG_IGN {
             handle(number, SIG_IGN);
         }
     }
-    removed
 }
 
 /// From here on a fault in a mapped file ends the process in that way.
@@ -77,12 +60,11 @@ pub fn expect() {
 }
 
 fn remove_now() {
-    for path in REMOVED.iter().map(|place| place.load(Ordering::Relaxed)) {
-        if !path.is_null() {
-            // SAFETY: the path ends with a zero byte and is never freed; `unlink` may be called
-            // in a handler.
-            unsafe { unlink(path) };
-        }
+    let path = REMOVED.load(Ordering::Relaxed);
+    if !path.is_null() {
+        // SAFETY: the path ends with a zero byte and is never freed; `unlink` may be called in
+        // a handler.
+        unsafe { unlink(path) };
     }
 }
 

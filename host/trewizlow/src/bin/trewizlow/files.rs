@@ -2,14 +2,12 @@
 
 use std::fs::{File, Metadata};
 use std::io::{self, Read};
-use std::mem::take;
 use std::ops::Deref;
 use std::os::unix::fs::MetadataExt;
 use std::path::{Path, PathBuf};
 
 use trewizlow::Directory;
 
-use crate::load_commands::wanted;
 use crate::map::Map;
 use crate::progress::during;
 
@@ -35,8 +33,6 @@ pub struct Opened {
     path: PathBuf,
     file: File,
     metadata: Metadata,
-    /// Bytes that were read already.
-    start: Vec<u8>,
 }
 
 impl Opened {
@@ -51,47 +47,29 @@ impl Opened {
         if metadata.is_dir() {
             return Err(io::ErrorKind::IsADirectory.into());
         }
-        Ok(Opened { path: path.to_path_buf(), file, metadata, start: Vec::new() })
+        Ok(Opened { path: path.to_path_buf(), file, metadata })
     }
 
     pub fn input(&self) -> Input {
         Input { path: self.path.clone(), identity: identity(&self.metadata) }
     }
 
-    /// The first bytes, up to `length`; they are lent with the rest.
-    pub fn peek(&mut self, length: usize) -> Result<&[u8], String> {
-        let mut bytes = take(&mut self.start);
-        let read = self.fetch(&mut bytes, length);
-        self.start = bytes;
-        read.map_err(|error| cannot_read(&self.path, error))?;
-        Ok(&self.start)
-    }
-
-    /// A whole Mach-O file. Of one that cannot be mapped no byte is read past what decides.
-    pub fn macho(mut self) -> Result<Lent, String> {
-        let bytes = match self.metadata.is_file() {
-            true => self.mapped(usize::MAX),
-            false => self.walked(),
-        };
-        self.lent(bytes, usize::MAX, usize::MAX)
-    }
-
     /// A small file: all its bytes, or one more than `most` where it has more. That one byte
     /// lets the library see that the file is too long.
-    pub fn read(mut self, most: usize) -> Result<Lent, String> {
+    pub fn read(self, most: usize) -> Result<Lent, String> {
         let bytes = self.fetched(most + 1);
         self.lent(bytes, most + 1, most)
     }
 
     /// The image, of which no more than the code limit is examined.
-    pub fn image(mut self, code_limit: usize) -> Result<Lent, String> {
+    pub fn image(self, code_limit: usize) -> Result<Lent, String> {
         let bytes = self.mapped(code_limit);
         self.lent(bytes, code_limit, code_limit)
     }
 
     /// The pages of a recheck, with one byte more as in `read`: no pages have more bytes than
     /// the code limit. None where the signature is refused, since none is then looked at.
-    pub fn pages(mut self, directory: &Directory) -> Result<Lent, String> {
+    pub fn pages(self, directory: &Directory) -> Result<Lent, String> {
         let wanted = if directory.answer.accepted() { directory.code_limit + 1 } else { 0 };
         let bytes = self.mapped(wanted);
         self.lent(bytes, wanted, directory.code_limit)
@@ -103,38 +81,20 @@ impl Opened {
         Ok(Lent { path: self.path, bytes, empty, most })
     }
 
-    /// Reads on, up to `wanted` bytes in all.
-    fn fetch(&self, bytes: &mut Vec<u8>, wanted: usize) -> io::Result<()> {
-        let more = wanted.saturating_sub(bytes.len());
+    /// Bytes in a buffer, up to `wanted`.
+    fn fetched(&self, wanted: usize) -> io::Result<Bytes> {
+        let mut bytes = Vec::new();
         // A regular file's length spares growing the buffer again and again.
         let length = usize::try_from(self.metadata.len()).unwrap_or(usize::MAX);
-        bytes.try_reserve_exact(length.min(more)).map_err(|_| io::ErrorKind::OutOfMemory)?;
+        bytes.try_reserve_exact(length.min(wanted)).map_err(|_| io::ErrorKind::OutOfMemory)?;
         let what = format!("reading {:?}", self.path);
-        during(&what, || (&self.file).take(more as u64).read_to_end(bytes)).map(drop)
-    }
-
-    /// Bytes in a buffer, up to `wanted`.
-    fn fetched(&mut self, wanted: usize) -> io::Result<Bytes> {
-        let mut bytes = take(&mut self.start);
-        self.fetch(&mut bytes, wanted)?;
+        during(&what, || (&self.file).take(wanted as u64).read_to_end(&mut bytes))?;
         Ok(Bytes::Fetched(bytes))
-    }
-
-    /// Bytes in a buffer, up to where the signature ends or a refusal is certain.
-    fn walked(&mut self) -> io::Result<Bytes> {
-        let mut bytes = take(&mut self.start);
-        loop {
-            let (before, wanted) = (bytes.len(), wanted(&bytes));
-            self.fetch(&mut bytes, wanted)?;
-            if bytes.len() == before {
-                return Ok(Bytes::Fetched(bytes));
-            }
-        }
     }
 
     /// A regular file's bytes where they lie, up to `wanted`. Nothing else can be mapped, nor
     /// can no bytes at all.
-    fn mapped(&mut self, wanted: usize) -> io::Result<Bytes> {
+    fn mapped(&self, wanted: usize) -> io::Result<Bytes> {
         let length = usize::try_from(self.metadata.len()).unwrap_or(usize::MAX).min(wanted);
         if self.metadata.is_file() && length > 0 {
             return Map::new(&self.file, length).map(Bytes::Mapped);

@@ -9,13 +9,12 @@ use crate::outcome::Outcome;
 pub const GENERAL: &str = "\
 usage: trewizlow COMMAND [OPTIONS]
 
-May this signed Mach-O file run? The answers are those of a proved library.
+May this signed Mach-O image run? The answers are those of a proved library.
 
 commands:
-  check      check a Mach-O file against its signature and a trust cache
+  check      check an image against its signature and a trust cache
   recheck    check the pages that a change met, going on from a check's marks
-  show       print where a file's signature lies, its blobs, directory, slots and cdhash
-  extract    cut signature and image out of a Mach-O file
+  show       print a signature's blobs, directory, slots and cdhash
   explain    print the rule behind a refusal number
   help       print the help of a command; so does --help after it
 
@@ -26,26 +25,19 @@ asked for exit with 0 as well.
 ";
 
 pub const CHECK: &str = "\
-usage: trewizlow check FILE --cache FILE [OPTIONS]
-       trewizlow check --signature FILE --image FILE --cache FILE [OPTIONS]
+usage: trewizlow check --signature FILE --image FILE --cache FILE [OPTIONS]
 
-The whole check, of a 64-bit little-endian Mach-O file or of its parts. Prints one line:
-the refusal number (0 is accepted), the place, and in words what failed where. Notes on a
-refusal, such as which flags are not allowed, go to standard error, and so does a warning
-where the hashes are SHA-1. All files are opened before any is read, the image last.
+The whole check. Prints one line: the refusal number (0 is accepted), the place, and in
+words what failed where. Notes on a refusal, such as which flags are not allowed, go to
+standard error, and so does a warning where the hashes are SHA-1. All files are opened
+before any is read, the image last.
 
-  FILE                      the Mach-O file: its LC_CODE_SIGNATURE says where the
-                            signature lies, and the image is the file before that. A
-                            regular file is mapped: where a test before 31 refuses, no
-                            byte is read but load commands and signature. Anything
-                            else, such as a pipe, is read up to the signature's end
-                            before the check. A universal file is made thin first, by
-                            lipo -thin
-  --signature FILE          instead of FILE: the signature (a SuperBlob) by itself, as
-                            extract cuts it out
-  --image FILE              and its image; bytes past the signature's code limit are not
-                            read. An image whose code limit is above 4,294,967,295 is
-                            lent so: a Mach-O file is then refused (41)
+  --signature FILE          the embedded signature (a SuperBlob), cut out of its Mach-O
+                            file; README.md has the recipe
+  --image FILE              the image; bytes past the signature's code limit are not
+                            read. A regular file is mapped: no byte of it is read where
+                            a test before 31 refuses. Anything else, such as a pipe, is
+                            read up to the code limit before the check
   --cache FILE              the trust cache
   --info-plist FILE         the Info.plist, where there is one
   --code-resources FILE     the CodeResources, where they are there
@@ -56,11 +48,9 @@ where the hashes are SHA-1. All files are opened before any is read, the image l
   --parent-is-init          launch fact
   --marks OUT               write the marks, a byte a page (0 agrees, 1 differs), where
                             the answer is 0 or 31; OUT is left alone otherwise
-  --json                    print an object: number, place, accepted, message; of a
-                            Mach-O file signature_start, signature_length and
-                            load_command where 36 to 40 pass, and a note where one of
-                            36 to 41 does not; marks_written; a warning where there is
-                            one; error where the status is 2
+  --json                    print an object: number, place, accepted, message,
+                            marks_written; a warning where there is one; error where
+                            the status is 2
 
 OUT is made, or replaced in one step, so that a crash leaves the old marks or the new
 ones. A file that is replaced keeps its permissions; the check waits while a recheck goes
@@ -87,11 +77,7 @@ error, and so does a warning where the hashes are SHA-1. Number 0 says that no m
 every page agrees as last examined. The trust cache is not looked at. All files are opened
 before any is read, the pages last.
 
-After a check of a whole Mach-O file rechecks speak of that image and signature lent
-apart; of the file only while the walk of the new file finds the same signature range.
-
-  --signature FILE   the signature of the check that wrote the marks; of a Mach-O file
-                     `trewizlow extract FILE --signature OUT` cuts it out
+  --signature FILE   the signature of the check that wrote the marks
   --start N          where the range starts in the image
   --length N         how many bytes it has
   --pages FILE       the new bytes of the pages met, from the start of the first to the
@@ -119,54 +105,23 @@ exit status: 0 no mark is 1, 1 refused, 2 usage or input error
 ";
 
 pub const SHOW: &str = "\
-usage: trewizlow show [--all-slots] [--json] FILE
+usage: trewizlow show [--all-slots] [--json] SIGNATURE
 
-Prints of a Mach-O file where its signature lies and which load command says so; then, as
-of a file that is a signature by itself (a SuperBlob), the signature's blobs, and the
-directory's fields, slots and cdhash, its hash type by name, its flags by Apple's names,
-its pages, and which field the code limit is. FILE is told by its first bytes. A refusal
-is printed in the place of what cannot be read; a hash type that is not known, a hash size
+Prints the signature's blobs, and the directory's fields, slots and cdhash, its hash type
+by name, its flags by Apple's names, and which field the code limit is. A refusal is
+printed in the place of what cannot be read; a hash type that is not known, a hash size
 that is not the type's, flags that are not allowed, a codeLimit64 that is too large, and
 a scatterOffset that is not 0 are named on standard error. There is a warning where the
-hashes are SHA-1, which is weak against collisions. Nothing is said of the image.
+hashes are SHA-1, which is weak against collisions. A Mach-O file is refused: its
+signature has to be cut out first, for which README.md has the recipe.
 
   --all-slots   print every code slot, not the first 16 alone
-  --json        print an object: number, place, well_formed, message; of a Mach-O file
-                signature_start, signature_length and load_command, and a note where
-                there is one on it; blobs; hash_type and hash_size, flags_not_allowed,
-                code_limit64 and scatter_offset where they are refused; a warning where
-                there is one; and the directory with every code slot; error where the
-                status is 2
+  --json        print an object: number, place, well_formed, message, blobs, hash_type
+                and hash_size, flags_not_allowed, code_limit64 and scatter_offset where
+                they are refused, a warning where there is one, and the directory with
+                every code slot; error where the status is 2
 
 exit status: 0 well formed, 1 refused, 2 usage or input error
-";
-
-pub const EXTRACT: &str = "\
-usage: trewizlow extract FILE [--signature OUT] [--image OUT] [--json]
-
-Cuts a 64-bit little-endian Mach-O file where check does (tests 36 to 40): rechecks go on
-with the signature, and check takes both as --signature and --image. Prints one line: 0, 0
-and where the signature lies, or the refusal number, the place, and in words what failed
-where; nothing is written then. Notes go to standard error. Nothing is said of whether the
-file may run.
-
-  --signature OUT   write the signature that LC_CODE_SIGNATURE names
-  --image OUT       write the image, which is the file before the signature
-  --json            print an object: number, place, found, message; signature_start,
-                    signature_length and load_command where it is found, and a note
-                    where there is one; signature_written, image_written; error where
-                    the status is 2
-
-At least one OUT is given, and two are not one file. Each is made, or replaced in one
-step, so that a crash leaves the old bytes or the new ones. A file that is replaced keeps
-its permissions; behind a symbolic link the file is replaced and the link stays. A device
-or a pipe, such as /dev/stdout, is written to. Nothing is written and the status is 2
-where an OUT is FILE (under any name), a directory, a read-only file, a symbolic link that
-leads to no file, or lies where no file can be made. The new files are made first, as
-.trewizlow-* beside each OUT; a run that is killed outright leaves them, and no run reads
-them.
-
-exit status: 0 found and written, 1 refused, 2 usage or input error
 ";
 
 pub const EXPLAIN: &str = "\

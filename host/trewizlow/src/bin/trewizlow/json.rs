@@ -43,9 +43,9 @@ pub fn error(sentence: &str) -> Member {
     ("error", string(sentence))
 }
 
-/// What became of an output: written or not, or an error on the way.
-pub fn written(name: &'static str, written: &Result<bool, String>) -> Vec<Member> {
-    let mut members = vec![(name, (*written == Ok(true)).to_string())];
+/// What became of the marks: written or not, or an error on the way.
+pub fn marks(written: &Result<bool, String>) -> Vec<Member> {
+    let mut members = vec![("marks_written", (*written == Ok(true)).to_string())];
     members.extend(written.as_ref().err().map(|sentence| error(sentence)));
     members
 }

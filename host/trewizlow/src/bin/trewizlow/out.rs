@@ -1,5 +1,4 @@
-//! Where a whole check's marks go, or what is extracted: a file that is made or replaced, a
-//! device or a pipe.
+//! Where a whole check's marks go: a file that is made or replaced, a device or a pipe.
 
 use std::fs::{self, File, Metadata, OpenOptions};
 use std::io::{self, ErrorKind, Write};
@@ -8,9 +7,9 @@ use std::os::unix::ffi::OsStrExt;
 use std::path::Path;
 
 use crate::files::{identity, Identity, Input};
-use crate::held::{cannot_write, exchanged, no_input, no_link, open, Held};
+use crate::marks::{cannot_write, exchanged, no_input, no_link, open, Held};
 use crate::progress::during;
-use crate::replace::{directory, Beside};
+use crate::replace::Beside;
 
 pub struct Out<'a> {
     path: &'a Path,
@@ -27,13 +26,13 @@ enum Kind {
     Standard(File),
 }
 
-/// Standard output or standard error, where the bytes go there, as with /dev/stdout.
-fn standard(there: &Metadata) -> Option<File> {
+/// Standard output or standard error, where the marks go there, as with /dev/stdout.
+fn standard(marks: &Metadata) -> Option<File> {
     let (output, error) = (io::stdout(), io::stderr());
     let same = |stream: BorrowedFd| {
         let file = File::from(stream.try_clone_to_owned().ok()?);
         let metadata = file.metadata().ok()?;
-        (identity(&metadata) == identity(there)).then_some(file)
+        (identity(&metadata) == identity(marks)).then_some(file)
     };
     same(output.as_fd()).or_else(|| same(error.as_fd()))
 }
@@ -56,19 +55,19 @@ fn next(path: &Path) -> io::Result<Beside> {
 
 fn kind(path: &Path, inputs: &[Input]) -> Result<Kind, String> {
     let file = |new: io::Result<Beside>| new.map(Kind::File).map_err(|e| cannot_write(path, e));
-    let output = match fs::metadata(path) {
+    let marks = match fs::metadata(path) {
         Err(error) if error.kind() == ErrorKind::NotFound => {
             no_link(path)?;
             return file(first(path));
         }
         found => found.map_err(|error| cannot_write(path, error))?,
     };
-    no_input(path, identity(&output), inputs)?;
-    if let Some(file) = standard(&output) {
+    no_input(path, identity(&marks), inputs)?;
+    if let Some(file) = standard(&marks) {
         return Ok(Kind::Standard(file));
     }
-    if !output.is_file() && !output.is_dir() {
-        return Ok(Kind::Stream(identity(&output)));
+    if !marks.is_file() && !marks.is_dir() {
+        return Ok(Kind::Stream(identity(&marks)));
     }
     file(next(path))
 }
@@ -83,34 +82,22 @@ fn stream(path: &Path, before: Identity, bytes: &[u8]) -> io::Result<()> {
     file.write_all(bytes)
 }
 
-/// True where two paths lead to one file, be it one that is to be made.
-pub fn same(one: &Path, other: &Path) -> bool {
-    let identity = |path| fs::metadata(path).map(|found| identity(&found));
-    let named = |path: &Path| {
-        Some((fs::canonicalize(directory(path)).ok()?, path.file_name()?.to_os_string()))
-    };
-    match (identity(one), identity(other)) {
-        (Ok(one), Ok(other)) => one == other,
-        (Err(_), Err(_)) => named(one).is_some_and(|one| Some(one) == named(other)),
-        _ => false,
-    }
-}
-
 impl<'a> Out<'a> {
-    /// An error where nothing can be written there, before anything is read.
+    /// An error where the marks cannot be written there, before anything is read.
     pub fn new(path: &'a Path, inputs: Vec<Input>) -> Result<Out<'a>, String> {
         let kind = kind(path, &inputs)?;
         Ok(Out { path, inputs, kind })
     }
 
     pub fn write(self, bytes: &[u8]) -> Result<(), String> {
-        let what = format!("writing {:?}", self.path);
         let written = match self.kind {
-            Kind::Standard(mut file) => during(&what, || file.write_all(bytes)),
-            Kind::Stream(before) => during(&what, || stream(self.path, before, bytes)),
+            Kind::Standard(mut file) => file.write_all(bytes),
+            Kind::Stream(before) => {
+                during("writing the marks", || stream(self.path, before, bytes))
+            }
             Kind::File(mut new) => match Held::wait(self.path, &self.inputs)? {
-                Some(held) => return during(&what, || held.replace(new, bytes)),
-                None => during(&what, || new.write(bytes)).and_then(|()| new.rename(self.path)),
+                Some(held) => return held.replace(new, bytes),
+                None => new.write(bytes).and_then(|()| new.rename(self.path)),
             },
         };
         written.map_err(|error| cannot_write(self.path, error))

@@ -5,13 +5,13 @@ use trewizlow::{read, recheck, Answer, MOST_PAGES, MOST_SIGNATURE_BYTES};
 use crate::arguments::{Arguments, Names};
 use crate::command::Command;
 use crate::files::{mebibytes, notes, Opened};
-use crate::held::{examine, Held};
 use crate::help;
 use crate::json;
 use crate::kinds;
+use crate::marks::{self, Held};
 use crate::outcome::Outcome;
 use crate::progress::during;
-use crate::remarks::remarks_on;
+use crate::remarks::remarks;
 
 pub const COMMAND: Command = Command {
     called: &["recheck"],
@@ -36,7 +36,7 @@ fn as_json(answer: &Answer, written: &Result<bool, String>, signature: &[u8]) ->
     let sentence = if answer.accepted() { AGREE.to_string() } else { answer.sentence() };
     let agree = ("pages_agree", pages_agree(answer));
     let mut members = json::answer(answer.number, answer.place, agree, &sentence);
-    members.extend(json::written("marks_written", written));
+    members.extend(json::marks(written));
     members.extend(kinds::warning_member(signature));
     json::object(&members) + "\n"
 }
@@ -56,7 +56,7 @@ fn run(arguments: &Arguments) -> Result<Outcome, String> {
     let pages = arguments.wanted_path("--pages")?;
     let path = arguments.wanted_path("--marks")?;
     let signature = Opened::new(signature)?;
-    examine(path)?;
+    marks::examine(path)?;
     // The pages come last: where they are a pipe, opening it waits for whoever writes it.
     let pages = Opened::new(pages)?;
     let inputs = [signature.input(), pages.input()];
@@ -72,7 +72,7 @@ fn run(arguments: &Arguments) -> Result<Outcome, String> {
         if answer.wrote_marks() { held.replace(new, &marks).map(|()| true) } else { Ok(false) };
     let refused = !answer.wrote_marks();
     let mut notes = notes(refused, [&signature, &pages, &old]);
-    notes.extend(remarks_on(&signature));
+    notes.extend(remarks(&signature));
     let text = match arguments.json() {
         true => as_json(&answer, &written, &signature.bytes),
         false => as_line(&answer),

@@ -3,13 +3,9 @@
 use crate::files::Lent;
 use crate::{flags, kinds, limit, macho, scatter};
 
-/// On a signature wherever it lies.
-pub fn remarks(signature: &[u8]) -> Vec<String> {
+pub fn remarks(signature: &Lent) -> impl Iterator<Item = String> {
+    let bytes = &signature.bytes;
     let notes = [kinds::note, flags::note, limit::note, scatter::note];
-    notes.iter().filter_map(|note| note(signature)).collect()
-}
-
-/// On one that is a file.
-pub fn remarks_on(signature: &Lent) -> Vec<String> {
-    macho::note_on_signature(signature).into_iter().chain(remarks(&signature.bytes)).collect()
+    let said: Vec<String> = notes.iter().filter_map(|note| note(bytes)).collect();
+    macho::note(signature).into_iter().chain(said)
 }

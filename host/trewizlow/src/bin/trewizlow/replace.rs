@@ -10,7 +10,7 @@ use std::os::unix::ffi::OsStrExt;
 use std::os::unix::fs::{fchown, MetadataExt, OpenOptionsExt};
 use std::path::{Path, PathBuf};
 
-use crate::fault::{self, Removed};
+use crate::fault;
 
 /// Names that are tried until one is free.
 const TRIES: usize = 16;
@@ -26,7 +26,7 @@ fn names() -> impl Iterator<Item = String> {
 }
 
 /// The directory that a path's last name stands in.
-pub fn directory(path: &Path) -> &Path {
+fn directory(path: &Path) -> &Path {
     let named = path.parent().filter(|parent| !parent.as_os_str().is_empty());
     named.unwrap_or(Path::new("."))
 }
@@ -35,7 +35,6 @@ pub fn directory(path: &Path) -> &Path {
 pub struct Beside {
     path: Option<PathBuf>,
     file: File,
-    _removed: Removed,
 }
 
 impl Beside {
@@ -63,8 +62,8 @@ impl Beside {
     }
 
     fn of(path: PathBuf, file: File) -> io::Result<Beside> {
-        let removed = fault::remove(CString::new(path.as_os_str().as_bytes())?);
-        Ok(Beside { path: Some(path), file, _removed: removed })
+        fault::remove(Some(CString::new(path.as_os_str().as_bytes())?));
+        Ok(Beside { path: Some(path), file })
     }
 
     /// Owner, group and permissions as the old file has them. Only a privileged user can give
@@ -97,6 +96,7 @@ impl Drop for Beside {
         if let Some(path) = &self.path {
             let _ = fs::remove_file(path);
         }
+        fault::remove(None);
     }
 }
 

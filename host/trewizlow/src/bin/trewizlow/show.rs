@@ -10,13 +10,11 @@ use trewizlow::{cdhash, find, read, Answer, Blob, CdHash, Directory, MOST_SIGNAT
 
 use crate::arguments::{Arguments, Names};
 use crate::command::Command;
-use crate::files::{notes, Lent, Opened};
+use crate::files::{notes, Opened};
 use crate::help;
 use crate::kinds;
-use crate::macho;
 use crate::outcome::Outcome;
 use crate::remarks::remarks;
-use crate::walk::Walked;
 use names::BLOBS;
 
 pub const COMMAND: Command = Command {
@@ -26,48 +24,8 @@ pub const COMMAND: Command = Command {
     run,
 };
 
-/// What is shown: a Mach-O file, or a signature by itself.
-enum Subject {
-    File(Walked),
-    Signature(Lent),
-}
-
-impl Subject {
-    fn open(path: &Path) -> Result<Subject, String> {
-        let mut file = Opened::new(path)?;
-        Ok(match macho::is_file(file.peek(macho::TELLING)?) {
-            true => Subject::File(Walked::new(file.macho()?)),
-            false => Subject::Signature(file.read(MOST_SIGNATURE_BYTES)?),
-        })
-    }
-
-    fn signature(&self) -> &[u8] {
-        match self {
-            Subject::File(walked) => walked.signature(),
-            Subject::Signature(file) => &file.bytes,
-        }
-    }
-
-    fn walked(&self) -> Option<&Walked> {
-        match self {
-            Subject::File(walked) => Some(walked),
-            Subject::Signature(_) => None,
-        }
-    }
-
-    fn notes(&self, answer: Answer) -> Vec<String> {
-        let mut notes = match self {
-            Subject::File(walked) => walked.note(answer.number, answer.place).into_iter().collect(),
-            Subject::Signature(file) => notes(!answer.accepted(), [file]),
-        };
-        notes.extend(remarks(self.signature()));
-        notes
-    }
-}
-
-/// What the library says of a signature, and of the file that it lies in.
+/// What the library says of a signature.
 struct Shown<'a> {
-    walked: Option<&'a Walked>,
     signature: &'a [u8],
     /// The blobs by their start: slot type, name and place.
     blobs: Vec<(u32, &'static str, Blob)>,
@@ -76,19 +34,15 @@ struct Shown<'a> {
 }
 
 impl<'a> Shown<'a> {
-    fn new(subject: &'a Subject) -> Shown<'a> {
-        let (walked, signature) = (subject.walked(), subject.signature());
+    fn new(signature: &'a [u8]) -> Shown<'a> {
         let found = BLOBS.iter().map(|&(kind, name)| (kind, name, find(signature, kind)));
         let mut blobs: Vec<_> = found.filter(|(_, _, blob)| blob.length > 0).collect();
         blobs.sort_by_key(|(_, _, blob)| blob.start);
-        let (directory, cdhash) = (read(signature), cdhash(signature));
-        Shown { walked, signature, blobs, directory, cdhash }
+        Shown { signature, blobs, directory: read(signature), cdhash: cdhash(signature) }
     }
 
-    /// That of the walk comes first.
     fn answer(&self) -> Answer {
-        let walk = self.walked.map(|walked| walked.found.answer);
-        walk.filter(|answer| !answer.accepted()).unwrap_or(self.directory.answer)
+        self.directory.answer
     }
 
     /// Bytes of the directory; none where they do not lie in it.
@@ -124,16 +78,18 @@ fn hex(bytes: &[u8]) -> String {
 
 fn run(arguments: &Arguments) -> Result<Outcome, String> {
     let [path] = arguments.words.as_slice() else {
-        return Err("show wants one Mach-O file or signature; see --help".to_string());
+        return Err("show wants one signature file; see --help".to_string());
     };
-    let subject = Subject::open(Path::new(path))?;
-    let shown = Shown::new(&subject);
+    let file = Opened::new(Path::new(path))?.read(MOST_SIGNATURE_BYTES)?;
+    let shown = Shown::new(&file.bytes);
     let text = if arguments.json() {
         object::text(&shown)
     } else {
         table::text(&shown, arguments.flag("--all-slots"))
     };
-    let (passed, notes) = (shown.answer().accepted(), subject.notes(shown.answer()));
-    let warnings = kinds::warning(shown.signature).into_iter().collect();
+    let passed = shown.answer().accepted();
+    let mut notes = notes(!passed, [&file]);
+    notes.extend(remarks(&file));
+    let warnings = kinds::warning(&file.bytes).into_iter().collect();
     Ok(Outcome { passed, notes, warnings, ..Outcome::text(text) })
 }

@@ -3,7 +3,6 @@
 use super::{hex, Shown};
 use crate::flags;
 use crate::json::{answer, array, object, string, Member};
-use crate::walk::Walked;
 use crate::{kinds, limit, scatter};
 
 const WELL_FORMED: &str = "the signature is well formed: all of its tests pass";
@@ -13,8 +12,6 @@ pub fn text(shown: &Shown) -> String {
     let well_formed = ("well_formed", said.accepted().to_string());
     let sentence = if said.accepted() { WELL_FORMED.to_string() } else { said.sentence() };
     let mut members = answer(said.number, said.place, well_formed, &sentence);
-    let walked = |walked: &Walked| walked.members(said.number, said.place);
-    members.extend(shown.walked.map(walked).unwrap_or_default());
     members.push(("blobs", blobs(shown)));
     members.extend(remarks(shown.signature));
     if said.accepted() {

@@ -6,7 +6,6 @@ use trewizlow::Directory;
 
 use super::names::covered;
 use super::{hex, Shown};
-use crate::walk::Walked;
 use crate::{flags, kinds, limit};
 
 /// Code slots that are printed where not all are asked for.
@@ -14,9 +13,6 @@ const FEW: usize = 16;
 
 pub fn text(shown: &Shown, all_slots: bool) -> String {
     let mut out = String::new();
-    if let Some(found) = shown.walked.and_then(Walked::text) {
-        writeln!(out, "Mach-O: {found}\n").unwrap();
-    }
     blobs(&mut out, shown);
     if !shown.answer().accepted() {
         writeln!(out, "{}", shown.answer()).unwrap();
@@ -51,22 +47,12 @@ fn fields(out: &mut String, shown: &Shown) {
         ("hash type", hash_type(d)),
         ("code limit", format!("{} bytes ({})", d.code_limit, limit::name(shown.signature))),
         ("page size", format!("{} bytes (pageSize {})", d.page_size, d.page_shift)),
-        ("pages", pages(d)),
         ("code slots", format!("{} from byte {} of the directory", d.code_slots, d.hash_offset)),
         ("special slots", d.special_slots.to_string()),
     ];
     out.push_str("code directory\n");
     for (name, value) in rows {
         writeln!(out, "  {name:13}  {value}").unwrap();
-    }
-}
-
-/// How many, and the length of the last where it is short.
-fn pages(d: &Directory) -> String {
-    let count = d.code_slots as usize;
-    match d.code_limit.checked_rem(d.page_size).filter(|rest| *rest > 0) {
-        Some(rest) => format!("{count} of {} bytes, the last of {rest}", d.page_size),
-        None => format!("{count} of {} bytes", d.page_size),
     }
 }
 

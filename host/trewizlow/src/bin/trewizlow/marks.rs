@@ -1,5 +1,4 @@
-//! A file that is to be replaced, such as the marks: what may be one, and who replaces it, one
-//! after the other.
+//! The marks file: what may be one, and who replaces it, one after the other.
 
 use std::fs::{self, File, OpenOptions};
 use std::io::{self, ErrorKind};
@@ -14,7 +13,7 @@ use crate::replace::Beside;
 const WRITABLE: u32 = 0o222;
 
 pub fn cannot_write(path: &Path, reason: impl std::fmt::Display) -> String {
-    format!("cannot write {path:?}: {reason}")
+    format!("cannot write the marks to {path:?}: {reason}")
 }
 
 /// What was looked at first has made room for something else, which is left alone.
@@ -23,10 +22,10 @@ pub fn exchanged() -> io::Error {
 }
 
 /// Replacing a file would destroy an input that it is, under whatever name.
-pub fn no_input(path: &Path, output: Identity, inputs: &[Input]) -> Result<(), String> {
-    match inputs.iter().find(|input| input.identity == output) {
+pub fn no_input(path: &Path, marks: Identity, inputs: &[Input]) -> Result<(), String> {
+    match inputs.iter().find(|input| input.identity == marks) {
         Some(input) => {
-            Err(format!("the output {path:?} and the input {:?} are one file", input.path))
+            Err(format!("the marks {path:?} and the input {:?} are one file", input.path))
         }
         None => Ok(()),
     }
@@ -40,7 +39,7 @@ pub fn no_link(path: &Path) -> Result<(), String> {
     }
 }
 
-/// A file that is there. It is opened for writing to learn whether that is allowed; the
+/// A marks file that is there. It is opened for writing to learn whether that is allowed; the
 /// bits are looked at because everything is allowed to a privileged user.
 pub fn open(path: &Path) -> io::Result<File> {
     let file = OpenOptions::new().read(true).write(true).open(path)?;
@@ -59,7 +58,7 @@ pub fn examine(path: &Path) -> Result<(), String> {
     open(path).map(drop).map_err(|error| cannot_write(path, error))
 }
 
-/// The file under its lock, from reading the old bytes to renaming the new ones.
+/// A marks file under its lock, from reading the old marks to renaming the new ones.
 pub struct Held {
     path: PathBuf,
     file: File,
@@ -97,8 +96,8 @@ impl Held {
     /// Waits for the lock, under which it is seen that the file is no input; none where
     /// nothing is there.
     pub fn wait(path: &Path, inputs: &[Input]) -> Result<Option<Held>, String> {
-        let what = format!("waiting for another run to release {path:?}");
-        let held = match waiting(&what, || Held::lock(path)) {
+        let what = "waiting for another run to release the marks";
+        let held = match waiting(what, || Held::lock(path)) {
             Err(error) if error.kind() == ErrorKind::NotFound => {
                 return no_link(path).map(|()| None);
             }
