@@ -60,8 +60,8 @@ fn number_at(c: &[u8], at: usize) -> u64
 // How the hash of entry i stands to the hash of entry j, both whole in the cache. It is `compare` by numbers, which are ordered as
 // their bytes are.
 fn compare_entries(c: &[u8], i: usize, j: usize) -> usize
-    requires cdhash_length_in_bounds { cache_head + entry_size * i + cdhash_length ≤ length c.now }
-    requires cdhash_length_in_bounds_2 { cache_head + entry_size * j + cdhash_length ≤ length c.now }
+    requires i_whole { cache_head + entry_size * i + cdhash_length ≤ length c.now }
+    requires j_whole { cache_head + entry_size * j + cdhash_length ≤ length c.now }
     ensures { result ≡ order (hash_at c.now i) (hash_at c.now j) }
 {
     let x = CacheHead::HEAD + CacheEntry::SIZE * i;
