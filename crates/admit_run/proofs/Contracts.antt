@@ -29,11 +29,11 @@ module _ (κs : Lfts 1) (a : ArgsD Rattle.admit_run.specs.contracts.text.put_lin
       → text-reads.Learnt κs a r e → (r ≤ length e.1.0.now) × Text a.0 (take r e.1.0.now)
   text_says r e h = h
 
--- arguments in order: the names of the three files
-module _ (κs : Lfts 3) (a : ArgsD Rattle.admit_run.specs.contracts.answer.signature κs) where
+-- arguments in order: the runtime, the names of the three files
+module _ (κs : Lfts 4) (a : ArgsD Rattle.admit_run.specs.contracts.answer.signature κs) where
   pub answer_asks : answer-reads.Asked κs a
   answer_asks = tt
 
-  pub answer_says : (r : ResD Rattle.admit_run.specs.contracts.answer.signature κs) (e : AtExit (ended_of 3 answer-kinds.ps answer-kinds.r) κs)
+  pub answer_says : (r : ResD Rattle.admit_run.specs.contracts.answer.signature κs) (e : AtExit (ended_of 4 answer-kinds.ps answer-kinds.r) κs)
       → answer-reads.Learnt κs a r e → Said r
   answer_says r e h = h

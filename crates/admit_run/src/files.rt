@@ -1,5 +1,5 @@
 // A file's bytes in a buffer. No contract can say what a file holds.
-ghost use Rattle.std.specs.Prelude.{◌≤◌, length};
+ghost use Rattle.std.specs.Prelude.{◌≡◌, ◌≤◌, length};
 
 use std::fs;
 use std::io::Read;

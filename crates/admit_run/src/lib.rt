@@ -152,12 +152,7 @@ fn read_and_say(
 }
 
 // What the program says of the files of three names.
-pub fn answer(
-    files: &impl Files,
-    signature_name: &[u8],
-    image_name: &[u8],
-    cache_name: &[u8],
-) -> Line
+pub fn answer(rt: &HostRuntime, signature_name: &[u8], image_name: &[u8], cache_name: &[u8]) -> Line
     ensures { Said result }
 {
     let mut signature = [0u8; SIGNATURE_ROOM];
@@ -165,7 +160,7 @@ pub fn answer(
     let mut cache = [0u8; CACHE_ROOM];
     let mut marks = [0u8; MARKS_ROOM];
     read_and_say(
-        files,
+        rt,
         signature_name,
         &mut signature,
         image_name,
@@ -195,7 +190,7 @@ fn argument(env: &impl Env, i: usize, out: &mut [u8]) -> Option<usize>
 }
 
 // The program.
-pub fn run(rt: &(impl Files + Env + Print)) -> io::Result<()> {
+pub fn run(rt: &HostRuntime) -> io::Result<()> {
     let mut signature = [0u8; NAME_ROOM];
     let mut image = [0u8; NAME_ROOM];
     let mut cache = [0u8; NAME_ROOM];

@@ -11,12 +11,9 @@ fn put(bytes: &[u8], out: &mut [u8], at: usize) -> usize
     ensures value { result ≡ at + length bytes.now }
     ensures out_after { take result out.new ≡ take at out.old ++ bytes.now }
 {
-    let mut i: usize = 0;
-    while i < bytes.len() {
-        out[at + i] = bytes[i];
-        i += 1;
-    }
-    at + i
+    let end = at + bytes.len();
+    out[at..end].copy_from_slice(bytes);
+    end
 }
 
 // Puts a number's digits there.
@@ -27,7 +24,7 @@ fn put_number(n: u64, out: &mut [u8], at: usize) -> usize
 {
     let mut digits = [0u8; 20];
     let k = io::decimal(n, &mut digits);
-    put(&digits[0..k], out, at)
+    put(&digits[..k], out, at)
 }
 
 // Puts number, space, place and newline at the start of a buffer, and answers where they end.

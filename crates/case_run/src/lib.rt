@@ -11,7 +11,7 @@ use corpus::PLACES;
 use operations::{MARKS, perform};
 use std::env::FillError;
 use std::io;
-use std::rt::{Env, Files};
+use std::rt::Env;
 
 // Room for a side file of one byte more than test 1 allows, or a signature as long, and for all other fields.
 const ARENA: usize = 4456449;
@@ -26,7 +26,7 @@ const NAME: usize = 4096;
 
 // A case that was run: where the file goes on, 0 where it is broken.
 fn run_case(
-    rt: &(impl Files + Print),
+    rt: &HostRuntime,
     file: &[u8],
     at: usize,
     arena: &mut [u8],
@@ -70,7 +70,7 @@ fn copy(from: &[u8], to: &mut [u8]) {
 }
 
 fn run_file(
-    rt: &(impl Files + Print),
+    rt: &HostRuntime,
     file: &[u8],
     arena: &mut [u8],
     places: &mut [usize; PLACES],
@@ -89,7 +89,7 @@ fn run_file(
 
 // Runs the file of a name.
 fn run_named(
-    rt: &(impl Files + Print),
+    rt: &HostRuntime,
     name: &[u8],
     file: &mut [u8],
     arena: &mut [u8],
@@ -108,7 +108,7 @@ fn run_named(
 
 // Runs the files of all arguments. Fields, arena and marks go on from file to file. An argument too long to be a name names no file.
 fn run_arguments(
-    rt: &(impl Files + Env + Print),
+    rt: &HostRuntime,
     file: &mut [u8],
     arena: &mut [u8],
     places: &mut [usize; PLACES],
@@ -125,15 +125,19 @@ fn run_arguments(
     Ok(())
 }
 
-fn run_in(rt: &(impl Files + Env + Print), arena: &mut [u8; ARENA]) -> io::Result<()> {
-    let mut file = [0u8; FILE];
+// A function of its own, since the prover would else count the bytes of the room one by one.
+fn room() -> [u8; FILE] {
+    [0; FILE]
+}
+
+fn run_in(rt: &HostRuntime, arena: &mut [u8; ARENA]) -> io::Result<()> {
     let mut places = [0usize; PLACES];
     let mut marks = [0u8; MOST_MARKS];
-    run_arguments(rt, &mut file, arena, &mut places, &mut marks)
+    run_arguments(rt, &mut room(), arena, &mut places, &mut marks)
 }
 
 // The program.
-pub fn run(rt: &(impl Files + Env + Print)) -> io::Result<()> {
+pub fn run(rt: &HostRuntime) -> io::Result<()> {
     let mut arena = [0u8; ARENA];
     run_in(rt, &mut arena)
 }

@@ -7,7 +7,6 @@ use crate::readers::print_readers;
 use corpus::{PLACES, part};
 use layout::directory::CodeDirectory;
 use std::io;
-use std::rt::Files;
 use trustcache::Launch;
 
 // Fields.
@@ -36,7 +35,7 @@ const FILE: usize = 10;
 // Performs a case's operation and prints what it answers, to the line's end. The marks are those of the case, or those that the call before
 // left.
 pub fn perform(
-    rt: &(impl Files + Print),
+    rt: &HostRuntime,
     operation: usize,
     arena: &[u8],
     places: &[usize; PLACES],
@@ -203,7 +202,7 @@ fn print_call(rt: &impl Print, number: u32, place: usize, marks: &[u8]) -> io::R
 }
 
 // The small program.
-fn small(rt: &(impl Files + Print), arena: &[u8], places: &[usize; PLACES]) -> io::Result<()> {
+fn small(rt: &HostRuntime, arena: &[u8], places: &[usize; PLACES]) -> io::Result<()> {
     let line = admit_run::answer(
         rt,
         part(arena, places, SIGNATURE),

@@ -69,7 +69,8 @@ fn print_pieces(rt: &impl Print, piece: &[u8], n: usize) -> io::Result<()>
 {
     let mut v = sha32::H256;
     for _ in 0..n / 8192 {
-        v = sha32::absorb(Function::Sha256, v, piece);
+        let next = sha32::absorb(Function::Sha256, v, piece);
+        v = next;
     }
     let last = n % 8192;
     let at = 64 * (last / 64);
