@@ -130,8 +130,8 @@ fn read_and_say(
     cache: &mut [u8],
     marks: &mut [u8],
 ) -> Line
-    requires most_signature_file_in_bounds { (most_signature_file < length signature.old) × (most_image_file < length image.old) × (most_cache_file < length cache.old) }
-    requires most_signature_file_in_bounds_2 { most_signature_file ≤ length marks.old }
+    requires files_have_room { (most_signature_file < length signature.old) × (most_image_file < length image.old) × (most_cache_file < length cache.old) }
+    requires marks_have_room { most_signature_file ≤ length marks.old }
     ensures { SaidIn signature.new image.new cache.new result }
 {
     let first = load(files, signature_name, signature);
