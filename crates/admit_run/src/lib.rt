@@ -1,6 +1,6 @@
 // Document 01's small program: reads a signature, an image and a trust cache from the files that its arguments name, and prints the number
 // and the place of a whole check, or what is wrong with a file. `line_of` decides what it says; reading (`files`) and printing stand around
-// it. Its exit status is 0 whatever it prints, and not 0 where printing fails.
+// it. Its exit status is 0 whatever it says; where printing fails, `run` returns the error.
 #![tactic(auto)]
 
 mod files;

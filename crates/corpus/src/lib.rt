@@ -16,7 +16,8 @@ use std::fs;
 use std::io::Read;
 use std::rt::Files;
 
-// Reads a file into a buffer, and answers how many bytes it has there: 0 where it cannot be opened. A read that fails ends them.
+// Reads a file into a buffer, and answers how many bytes it has there: 0 where it cannot be opened. A read that fails ends them. Files have
+// names of UTF-8 text: one of other bytes names none.
 pub fn load(files: &impl Files, name: &[u8], out: &mut [u8]) -> usize
     ensures { IsPrefixLen result out.new }
 {
