@@ -10,7 +10,6 @@ use Rattle.layout.specs.CodeDirectory.{directory_type}
 use Rattle.superblob.specs.Rows.{blob_at}
 use Rattle.superblob.proofs.Lookup.{blob_of_at}
 use Rattle.directory.specs.Pages.{code_limit}
-use Rattle.directory.specs.Rows.{directory}
 use Rattle.macho.specs.Walked.{Walked}
 use Rattle.macho.proofs.Walked.{walked_exactly}
 use Rattle.macho.proofs.Parts.{start_is, signature_named, image_named}

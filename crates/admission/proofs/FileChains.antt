@@ -19,7 +19,6 @@ use Rattle.macho.specs.Walked.{Walked}
 use Rattle.macho.proofs.Walked.{walked, walked_passes}
 use Rattle.macho.proofs.Parts.{start_is, image_long}
 use Rattle.macho.proofs.Same.{Alike, walked_same, start_same, end_same}
-use Rattle.admission.specs.declared.Verdict.{Verdict}
 use Rattle.admission.specs.Input.{Lent, with_image, limit_of}
 use Rattle.admission.specs.Check.{CheckOutcome, check_of}
 use Rattle.admission.specs.File.{LentFile, with_file, apart, file_of}

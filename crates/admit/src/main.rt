@@ -1,6 +1,8 @@
 // Document 01's small program, run on files that it accepts. They are made by tools/make-admit.
 #![tactic(auto)]
 
-fn main() {
-    admit_run::run();
+use std::io;
+
+fn main(rt: HostRuntime) -> io::Result<()> {
+    admit_run::run(&rt)
 }

@@ -1,6 +1,10 @@
 // A file's bytes in a buffer. No contract can say what a file holds.
 ghost use Rattle.std.specs.Prelude.{◌≤◌, length};
 
+use std::fs;
+use std::io::Read;
+use std::rt::Files;
+
 // Whether a file could be opened and read, and how many of its bytes are at the start of the buffer: all, or as many as have room.
 #[derive(Clone, Copy)]
 pub struct Loaded {
@@ -8,40 +12,40 @@ pub struct Loaded {
     pub length: usize,
 }
 
-pub fn load(name: &[u8], out: &mut [u8]) -> Loaded
+// A file that is not there.
+fn missing() -> Loaded
+    ensures { result.length ≡ 0 }
+{
+    Loaded {
+        there: false,
+        length: 0,
+    }
+}
+
+// Reads the file of a name. Files have names of UTF-8 text: one of other bytes names none.
+pub fn load(files: &impl Files, name: &[u8], out: &mut [u8]) -> Loaded
     ensures { result.length ≤ length out.new }
 {
-    let fd = os::open_read(name);
-    if fd < 0 {
-        return Loaded {
-            there: false,
-            length: 0,
-        };
+    let Ok(path) = str::from_utf8(name) else {
+        return missing();
+    };
+    match fs::open(files, path) {
+        Ok(mut file) => read_all(&mut file, out),
+        Err(_) => missing(),
     }
-    let loaded = read_all(fd, out);
-    libc::close(fd);
-    loaded
 }
 
 // Reads until the buffer is full or the file ends. A read that fails, as of a directory, means that the file is not there: its bytes are not.
-fn read_all(fd: i32, out: &mut [u8]) -> Loaded
+fn read_all(file: &mut impl Read, out: &mut [u8]) -> Loaded
     ensures { result.length ≤ length out.new }
 {
-    let end = out.len();
     let mut n: usize = 0;
-    while n < end {
-        let got = libc::read(fd, &mut out[n..end]);
-        if got < 0 {
-            return Loaded {
-                there: false,
-                length: 0,
-            };
+    while n < out.len() {
+        match file.read(&mut out[n..]) {
+            Ok(0) => break,
+            Ok(more) => n += more,
+            Err(_) => return missing(),
         }
-        let more = io::count(got, &out[n..end]);
-        if more == 0 {
-            break;
-        }
-        n += more;
     }
     Loaded {
         there: true,

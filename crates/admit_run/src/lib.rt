@@ -1,17 +1,21 @@
 // Document 01's small program: reads a signature, an image and a trust cache from the files that its arguments name, and prints the number
 // and the place of a whole check, or what is wrong with a file. `line_of` decides what it says; reading (`files`) and printing stand around
-// it. Its exit status is 0 whatever it prints: the language has no other.
+// it. Its exit status is 0 whatever it prints, and not 0 where printing fails.
 #![tactic(auto)]
 
 mod files;
 mod text;
 
-ghost use Rattle.std.specs.Prelude.{◌≡◌, ◌<◌, ◌≤◌, length};
+ghost use Rattle.std.specs.Prelude.{◌≡◌, ◌<◌, ◌≤◌, length, IfSome};
+ghost use Rattle.io.specs.Counts.{IsPrefixLen};
 ghost use Rattle.admit_run.specs.Small.{most_signature_file, most_image_file, most_cache_file, file_of, small_line, marks_wanted, small_verdict, SaidIn, Said};
 
 use admission::Verdict;
 use files::load;
 use layout::directory::CodeDirectory;
+use std::env::FillError;
+use std::io;
+use std::rt::{Env, Files};
 use text::put_line;
 use trustcache::Launch;
 
@@ -31,6 +35,11 @@ const IMAGE_ROOM: usize = IMAGE_MOST + 1;
 const CACHE_ROOM: usize = CACHE_MOST + 1;
 
 const MARKS_ROOM: usize = SIGNATURE_MOST;
+
+// Room for a file's name, and for a line.
+const NAME_ROOM: usize = 4096;
+
+const LINE_ROOM: usize = 42;
 
 // What the program says: that a file is not there, that one is too long, or the verdict.
 #[derive(Clone, Copy)]
@@ -112,6 +121,7 @@ fn marks_wanted(signature: &[u8]) -> usize
 
 // What is said of the files of three names, which are read into the buffers.
 fn read_and_say(
+    files: &impl Files,
     signature_name: &[u8],
     signature: &mut [u8],
     image_name: &[u8],
@@ -124,9 +134,9 @@ fn read_and_say(
     requires most_signature_file_in_bounds_2 { most_signature_file ≤ length marks.old }
     ensures { SaidIn signature.new image.new cache.new result }
 {
-    let first = load(signature_name, signature);
-    let second = load(image_name, image);
-    let third = load(cache_name, cache);
+    let first = load(files, signature_name, signature);
+    let second = load(files, image_name, image);
+    let third = load(files, cache_name, cache);
     let a = first.length;
     let b = second.length;
     let c = third.length;
@@ -142,7 +152,12 @@ fn read_and_say(
 }
 
 // What the program says of the files of three names.
-pub fn answer(signature_name: &[u8], image_name: &[u8], cache_name: &[u8]) -> Line
+pub fn answer(
+    files: &impl Files,
+    signature_name: &[u8],
+    image_name: &[u8],
+    cache_name: &[u8],
+) -> Line
     ensures { Said result }
 {
     let mut signature = [0u8; SIGNATURE_ROOM];
@@ -150,6 +165,7 @@ pub fn answer(signature_name: &[u8], image_name: &[u8], cache_name: &[u8]) -> Li
     let mut cache = [0u8; CACHE_ROOM];
     let mut marks = [0u8; MARKS_ROOM];
     read_and_say(
+        files,
         signature_name,
         &mut signature,
         image_name,
@@ -161,23 +177,37 @@ pub fn answer(signature_name: &[u8], image_name: &[u8], cache_name: &[u8]) -> Li
 }
 
 // Writes a line.
-pub fn print(line: Line) {
-    let mut text = io::buffer();
+pub fn print(rt: &impl Print, line: Line) -> io::Result<()> {
+    let mut text = [0u8; LINE_ROOM];
     let n = put_line(line, &mut text);
-    io::write_all(1, &text[0..n]);
+    rt.write_all(&text[0..n])
+}
+
+// Argument i in a buffer, and how many bytes it has there: 0 where it has no room, which names no file; nothing where it is not given.
+fn argument(env: &impl Env, i: usize, out: &mut [u8]) -> Option<usize>
+    ensures { IfSome result (λ n. IsPrefixLen n out.new) }
+{
+    match env.arg(i, out) {
+        Ok(n) => Some(n),
+        Err(FillError::TooLong) => Some(0),
+        Err(FillError::NotPresent) => None,
+    }
 }
 
 // The program.
-pub fn run() {
-    if os::arg_count() != 4 {
-        io::write_all(1, b"usage: admit SIGNATURE IMAGE CACHE\n");
-        return;
+pub fn run(rt: &(impl Files + Env + Print)) -> io::Result<()> {
+    let mut signature = [0u8; NAME_ROOM];
+    let mut image = [0u8; NAME_ROOM];
+    let mut cache = [0u8; NAME_ROOM];
+    let a = argument(rt, 1, &mut signature);
+    let b = argument(rt, 2, &mut image);
+    let c = argument(rt, 3, &mut cache);
+    let more = argument(rt, 4, &mut []);
+    match (a, b, c, more) {
+        (Some(a), Some(b), Some(c), None) => print(
+            rt,
+            answer(rt, &signature[0..a], &image[0..b], &cache[0..c]),
+        ),
+        _ => rt.write_all(b"usage: admit SIGNATURE IMAGE CACHE\n"),
     }
-    let mut signature = io::buffer();
-    let mut image = io::buffer();
-    let mut cache = io::buffer();
-    let a = os::arg(1, &mut signature);
-    let b = os::arg(2, &mut image);
-    let c = os::arg(3, &mut cache);
-    print(answer(&signature[0..a], &image[0..b], &cache[0..c]));
 }

@@ -1,6 +1,8 @@
 // Document 01's small program, asked with one argument too many.
 #![tactic(auto)]
 
-fn main() {
-    admit_run::run();
+use std::io;
+
+fn main(rt: HostRuntime) -> io::Result<()> {
+    admit_run::run(&rt)
 }

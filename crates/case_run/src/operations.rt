@@ -6,6 +6,8 @@
 use crate::readers::print_readers;
 use corpus::{PLACES, part};
 use layout::directory::CodeDirectory;
+use std::io;
+use std::rt::Files;
 use trustcache::Launch;
 
 // Fields.
@@ -33,28 +35,34 @@ const FILE: usize = 10;
 
 // Performs a case's operation and prints what it answers, to the line's end. The marks are those of the case, or those that the call before
 // left.
-pub fn perform(operation: usize, arena: &[u8], places: &[usize; PLACES], marks: &mut [u8]) {
+pub fn perform(
+    rt: &(impl Files + Print),
+    operation: usize,
+    arena: &[u8],
+    places: &[usize; PLACES],
+    marks: &mut [u8],
+) -> io::Result<()> {
     match operation {
-        0 => print_readers(part(arena, places, SIGNATURE), part(arena, places, TYPES)),
-        1 => slots(arena, places),
-        2 => cache(arena, places),
-        3 => check(arena, places, marks),
-        4 => recheck(arena, places, marks),
-        5 => small(arena, places),
-        6 => file_read(part(arena, places, FILE)),
-        7 => file_check(arena, places, marks),
-        _ => write(b"no such operation\n"),
+        0 => print_readers(
+            rt,
+            part(arena, places, SIGNATURE),
+            part(arena, places, TYPES),
+        ),
+        1 => slots(rt, arena, places),
+        2 => cache(rt, arena, places),
+        3 => check(rt, arena, places, marks),
+        4 => recheck(rt, arena, places, marks),
+        5 => small(rt, arena, places),
+        6 => file_read(rt, part(arena, places, FILE)),
+        7 => file_check(rt, arena, places, marks),
+        _ => rt.write_all(b"no such operation\n"),
     }
 }
 
-fn write(text: &[u8]) {
-    io::write_all(1, text);
-}
-
 // An answer as a whole line.
-fn print_line(number: u32, place: usize) {
-    corpus::print_answer(number, place);
-    write(b"\n");
+fn print_line(rt: &impl Print, number: u32, place: usize) -> io::Result<()> {
+    corpus::print_answer(rt, number, place)?;
+    rt.write_all(b"\n")
 }
 
 fn flag(facts: &[u8], i: usize) -> bool {
@@ -77,13 +85,12 @@ fn launch(facts: &[u8]) -> Launch {
 }
 
 // Tests 1 to 18, then 21 to 23.
-fn slots(arena: &[u8], places: &[usize; PLACES]) {
+fn slots(rt: &impl Print, arena: &[u8], places: &[usize; PLACES]) -> io::Result<()> {
     let sig = part(arena, places, SIGNATURE);
     let facts = part(arena, places, FACTS);
     let read = directory::tested(sig, 0);
     if read.number != 0 {
-        print_line(read.number, read.place);
-        return;
+        return print_line(rt, read.number, read.place);
     }
     let answer = slots::tested(
         sig,
@@ -93,22 +100,20 @@ fn slots(arena: &[u8], places: &[usize; PLACES]) {
         flag(facts, 1),
         part(arena, places, RESOURCES),
     );
-    print_line(answer.number, answer.place);
+    print_line(rt, answer.number, answer.place)
 }
 
 // The first 20 bytes of an item; zeros where it is shorter.
 fn hash_of(item: &[u8]) -> [u8; 20] {
     let mut hash = [0u8; 20];
-    let mut i: usize = 0;
-    while i < 20 {
+    for i in 0..20 {
         hash[i] = (endian::byte(item, 0, i) % 256) as u8;
-        i += 1;
     }
     hash
 }
 
 // Tests 24 to 30, of a directory hashed by SHA-256; whole checks have the other kinds.
-fn cache(arena: &[u8], places: &[usize; PLACES]) {
+fn cache(rt: &impl Print, arena: &[u8], places: &[usize; PLACES]) -> io::Result<()> {
     let hash = hash_of(part(arena, places, HASH));
     let facts = launch(part(arena, places, FACTS));
     let answer = trustcache::tested(
@@ -117,10 +122,15 @@ fn cache(arena: &[u8], places: &[usize; PLACES]) {
         hash,
         facts,
     );
-    print_line(answer.number, answer.place);
+    print_line(rt, answer.number, answer.place)
 }
 
-fn check(arena: &[u8], places: &[usize; PLACES], marks: &mut [u8]) {
+fn check(
+    rt: &impl Print,
+    arena: &[u8],
+    places: &[usize; PLACES],
+    marks: &mut [u8],
+) -> io::Result<()> {
     let facts = part(arena, places, FACTS);
     let verdict = trewizlow::trewizlow_check(
         part(arena, places, SIGNATURE),
@@ -133,10 +143,15 @@ fn check(arena: &[u8], places: &[usize; PLACES], marks: &mut [u8]) {
         part(arena, places, RESOURCES),
         launch(facts),
     );
-    print_call(verdict.number, verdict.place, marks);
+    print_call(rt, verdict.number, verdict.place, marks)
 }
 
-fn recheck(arena: &[u8], places: &[usize; PLACES], marks: &mut [u8]) {
+fn recheck(
+    rt: &impl Print,
+    arena: &[u8],
+    places: &[usize; PLACES],
+    marks: &mut [u8],
+) -> io::Result<()> {
     let range = part(arena, places, RANGE);
     let answer = trewizlow::trewizlow_recheck(
         part(arena, places, SIGNATURE),
@@ -145,19 +160,24 @@ fn recheck(arena: &[u8], places: &[usize; PLACES], marks: &mut [u8]) {
         part(arena, places, IMAGE),
         marks,
     );
-    print_call(answer.number, answer.place, marks);
+    print_call(rt, answer.number, answer.place, marks)
 }
 
 // `NUMBER PLACE START+LENGTH`.
-fn file_read(file: &[u8]) {
+fn file_read(rt: &impl Print, file: &[u8]) -> io::Result<()> {
     let found = trewizlow::trewizlow_file_read(file);
-    corpus::print_answer(found.number, found.place);
-    corpus::print(b" ", found.start);
-    corpus::print(b"+", found.length);
-    write(b"\n");
+    corpus::print_answer(rt, found.number, found.place)?;
+    corpus::print(rt, b" ", found.start)?;
+    corpus::print(rt, b"+", found.length)?;
+    rt.write_all(b"\n")
 }
 
-fn file_check(arena: &[u8], places: &[usize; PLACES], marks: &mut [u8]) {
+fn file_check(
+    rt: &impl Print,
+    arena: &[u8],
+    places: &[usize; PLACES],
+    marks: &mut [u8],
+) -> io::Result<()> {
     let facts = part(arena, places, FACTS);
     let verdict = trewizlow::trewizlow_file_check(
         part(arena, places, FILE),
@@ -169,24 +189,26 @@ fn file_check(arena: &[u8], places: &[usize; PLACES], marks: &mut [u8]) {
         part(arena, places, RESOURCES),
         launch(facts),
     );
-    print_call(verdict.number, verdict.place, marks);
+    print_call(rt, verdict.number, verdict.place, marks)
 }
 
 // An answer, and the marks where there are any.
-fn print_call(number: u32, place: usize, marks: &[u8]) {
-    corpus::print_answer(number, place);
+fn print_call(rt: &impl Print, number: u32, place: usize, marks: &[u8]) -> io::Result<()> {
+    corpus::print_answer(rt, number, place)?;
     if marks.len() != 0 {
-        write(b" ");
-        corpus::print_bytes(marks);
+        rt.write_all(b" ")?;
+        corpus::print_bytes(rt, marks)?;
     }
-    write(b"\n");
+    rt.write_all(b"\n")
 }
 
 // The small program.
-fn small(arena: &[u8], places: &[usize; PLACES]) {
-    admit_run::print(admit_run::answer(
+fn small(rt: &(impl Files + Print), arena: &[u8], places: &[usize; PLACES]) -> io::Result<()> {
+    let line = admit_run::answer(
+        rt,
         part(arena, places, SIGNATURE),
         part(arena, places, IMAGE),
         part(arena, places, CACHE),
-    ));
+    );
+    admit_run::print(rt, line)
 }

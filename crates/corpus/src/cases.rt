@@ -97,8 +97,7 @@ fn take_fields(
 {
     let mut named = false;
     let mut next = at;
-    let mut i: usize = 0;
-    while i < count {
+    for _ in 0..count {
         let field = take_field(file, next, arena, places);
         if field.next <= next {
             return Taken {
@@ -110,7 +109,6 @@ fn take_fields(
         if field.number == asked {
             named = true;
         }
-        i += 1;
     }
     Taken { named, next }
 }

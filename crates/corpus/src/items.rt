@@ -25,10 +25,8 @@ struct Step {
 fn copy(file: &[u8], from: usize, out: &mut [u8], to: usize, n: usize)
     requires { (from + n ≤ length file.now) × (to + n ≤ length out.old) }
 {
-    let mut i: usize = 0;
-    while i < n {
+    for i in 0..n {
         out[to + i] = file[from + i];
-        i += 1;
     }
 }
 
@@ -36,10 +34,8 @@ fn copy(file: &[u8], from: usize, out: &mut [u8], to: usize, n: usize)
 fn fill(out: &mut [u8], to: usize, n: usize, b: u8)
     requires { to + n ≤ length out.old }
 {
-    let mut i: usize = 0;
-    while i < n {
+    for i in 0..n {
         out[to + i] = b;
-        i += 1;
     }
 }
 
@@ -62,10 +58,8 @@ fn record_byte(file: &[u8], from: usize, i: usize) -> u8
 fn number(file: &[u8], from: usize, out: &mut [u8], to: usize, n: usize)
     requires { (from + 24 ≤ length file.now) × (to + n ≤ length out.old) }
 {
-    let mut i: usize = 0;
-    while i < n {
+    for i in 0..n {
         out[to + i] = record_byte(file, from, i);
-        i += 1;
     }
 }
 

@@ -1,16 +1,18 @@
 // What a program writes to standard output no contract can say; it is held to a stored output.
 ghost use Rattle.std.specs.Prelude.{◌<◌};
 
+use std::io;
+
 // Writes a text and a number.
-pub fn print(text: &[u8], n: usize) {
-    io::write_all(1, text);
-    io::print_decimal(1, n as u64);
+pub fn print(rt: &impl Print, text: &[u8], n: usize) -> io::Result<()> {
+    rt.write_all(text)?;
+    rt.print(n)
 }
 
 // Writes `NUMBER PLACE`.
-pub fn print_answer(number: u32, place: usize) {
-    print(b"", number as usize);
-    print(b" ", place);
+pub fn print_answer(rt: &impl Print, number: u32, place: usize) -> io::Result<()> {
+    print(rt, b"", number as usize)?;
+    print(rt, b" ", place)
 }
 
 // The hexadecimal digit of a number below 16.
@@ -21,11 +23,10 @@ fn digit(x: u8) -> u8
 }
 
 // Writes bytes in hexadecimal.
-pub fn print_bytes(bytes: &[u8]) {
-    let mut i: usize = 0;
-    while i < bytes.len() {
-        let b = bytes[i];
-        io::write_all(1, &[digit(b / 16 % 16), digit(b % 16)]);
-        i += 1;
+pub fn print_bytes(rt: &impl Print, bytes: &[u8]) -> io::Result<()> {
+    for b in bytes {
+        let b = *b;
+        rt.write_all(&[digit(b / 16 % 16), digit(b % 16)])?;
     }
+    Ok(())
 }

@@ -7,6 +7,7 @@ ghost use Rattle.std.specs.Prelude.{◌≡◌, ◌≤◌, length};
 
 use layout::directory::CodeDirectory;
 use sha32::Function;
+use std::io;
 
 // The bytes of the longest message that is held whole.
 const ROOM: usize = 1000000;
@@ -16,108 +17,105 @@ fn repeated(b: u8) -> [u8; ROOM] {
 }
 
 // Writes the bytes in hexadecimal, and ends the line.
-fn print_line(bytes: &[u8]) {
-    corpus::print_bytes(bytes);
-    io::write_all(1, b"\n");
+fn print_line(rt: &impl Print, bytes: &[u8]) -> io::Result<()> {
+    corpus::print_bytes(rt, bytes)?;
+    rt.write_all(b"\n")
 }
 
 // The digest by a kind, at the kind's width.
-fn print_digest(kind: usize, message: &[u8]) {
+fn print_digest(rt: &impl Print, kind: usize, message: &[u8]) -> io::Result<()> {
     let d = digest::digest(kind, message);
-    print_line(&d[0..CodeDirectory::slot_width(kind)]);
+    print_line(rt, &d[0..CodeDirectory::slot_width(kind)])
 }
 
 // The digest of the first n bytes.
-fn print_start(kind: usize, message: &[u8; ROOM], n: usize)
+fn print_start(rt: &impl Print, kind: usize, message: &[u8; ROOM], n: usize) -> io::Result<()>
     requires { n ≤ 1000000 }
 {
     let all = &message[..];
-    print_digest(kind, &all[0..n]);
+    print_digest(rt, kind, &all[0..n])
 }
 
 // The digest of n times the byte b.
-fn print_repeated(kind: usize, b: u8, n: usize)
+fn print_repeated(rt: &impl Print, kind: usize, b: u8, n: usize) -> io::Result<()>
     requires { n ≤ 1000000 }
 {
     let message = repeated(b);
-    print_start(kind, &message, n);
+    print_start(rt, kind, &message, n)
 }
 
 // Fills a slice with the bytes 89, 220, .. : byte i is 131 * i + 89 modulo 256.
 fn fill(out: &mut [u8]) {
     let mut b: usize = 89;
-    let mut i: usize = 0;
-    while i < out.len() {
-        out[i] = (b % 256) as u8;
+    for byte in out.iter_mut() {
+        *byte = (b % 256) as u8;
         b = (b + 131) % 256;
-        i += 1;
     }
 }
 
 // The digest of every first part of a slice, the shortest first.
-fn print_lengths(kind: usize, pattern: &[u8])
+fn print_lengths(rt: &impl Print, kind: usize, pattern: &[u8]) -> io::Result<()>
     requires { length pattern.now ≡ 300 }
 {
-    let mut n: usize = 0;
-    while n <= 300 {
-        print_digest(kind, &pattern[0..n]);
-        n += 1;
+    for n in 0..=300 {
+        print_digest(rt, kind, &pattern[0..n])?;
     }
+    Ok(())
 }
 
 // The SHA-256 digest of n bytes, of which a piece holds the first 8,192 and the next, and so on: taken in piece by piece.
-fn print_pieces(piece: &[u8], n: usize)
+fn print_pieces(rt: &impl Print, piece: &[u8], n: usize) -> io::Result<()>
     requires { length piece.now ≡ 8192 }
 {
     let mut v = sha32::H256;
-    let mut i: usize = 0;
-    while i < n / 8192 {
-        let next = sha32::absorb(Function::Sha256, v, piece);
-        v = next;
-        i += 1;
+    for _ in 0..n / 8192 {
+        v = sha32::absorb(Function::Sha256, v, piece);
     }
     let last = n % 8192;
     let at = 64 * (last / 64);
     let all = sha32::absorb(Function::Sha256, v, &piece[0..last]);
-    print_line(&sha32::write_value(sha32::finish(Function::Sha256, all, &piece[at..last], n)));
+    let value = sha32::finish(Function::Sha256, all, &piece[at..last], n);
+    print_line(rt, &sha32::write_value(value))
 }
 
-fn print_kind(kind: usize) {
-    print_digest(kind, b"");
-    print_digest(kind, b"abc");
+fn print_kind(rt: &impl Print, kind: usize) -> io::Result<()> {
+    print_digest(rt, kind, b"")?;
+    print_digest(rt, kind, b"abc")?;
     print_digest(
+        rt,
         kind,
         b"abcdbcdecdefdefgefghfghighijhijkijkljklmklmnlmnomnopnopq",
-    );
+    )?;
     print_digest(
+        rt,
         kind,
         b"abcdefghbcdefghicdefghijdefghijkefghijklfghijklmghijklmnhijklmnoijklmnopjklmnopqklmnopqrlmnopqrsmnopqrstnopqrstu",
-    );
-    print_digest(kind, b"\xbd");
-    print_digest(kind, b"\xc9\x8c\x8e\x55");
-    print_repeated(kind, 0, 55);
-    print_repeated(kind, 0, 56);
-    print_repeated(kind, 0, 57);
-    print_repeated(kind, 0, 64);
-    print_repeated(kind, 0, 1000);
-    print_repeated(kind, b'A', 1000);
-    print_repeated(kind, b'U', 1005);
-    print_repeated(kind, b'a', 1000000);
-    print_repeated(kind, 0, 1000000);
+    )?;
+    print_digest(rt, kind, b"\xbd")?;
+    print_digest(rt, kind, b"\xc9\x8c\x8e\x55")?;
+    print_repeated(rt, kind, 0, 55)?;
+    print_repeated(rt, kind, 0, 56)?;
+    print_repeated(rt, kind, 0, 57)?;
+    print_repeated(rt, kind, 0, 64)?;
+    print_repeated(rt, kind, 0, 1000)?;
+    print_repeated(rt, kind, b'A', 1000)?;
+    print_repeated(rt, kind, b'U', 1005)?;
+    print_repeated(rt, kind, b'a', 1000000)?;
+    print_repeated(rt, kind, 0, 1000000)?;
     let mut pattern = [0u8; 300];
     fill(&mut pattern);
-    print_lengths(kind, &pattern);
+    print_lengths(rt, kind, &pattern)
 }
 
-fn main() {
-    print_kind(CodeDirectory::SHA1);
-    print_kind(CodeDirectory::SHA256);
-    print_pieces(&[b'Z'; 8192], 536870912);
-    print_kind(CodeDirectory::SHA256_TRUNCATED);
-    print_kind(CodeDirectory::SHA384);
-    print_digest(0, b"abc");
-    print_digest(5, b"abc");
+fn main(rt: HostRuntime) -> io::Result<()> {
+    print_kind(&rt, CodeDirectory::SHA1)?;
+    print_kind(&rt, CodeDirectory::SHA256)?;
+    print_pieces(&rt, &[b'Z'; 8192], 536870912)?;
+    print_kind(&rt, CodeDirectory::SHA256_TRUNCATED)?;
+    print_kind(&rt, CodeDirectory::SHA384)?;
+    print_digest(&rt, 0, b"abc")?;
+    print_digest(&rt, 5, b"abc")?;
     let full =
         b"\xc4\x6e\x56\xe9\x49\x0d\x93\xfe\x35\xa7\x61\x99\xbd\xb3\x67\xb3\x46\x3c\x91\xdc\xdb\x3c\x46\x40\x3a\xb8\xba\x1c\x2d\x13\xfd\x86\0\0\0\0\0\0\0\0\0\0\0\0\0\0\0\0";
-    print_line(&digest::cut(*full));
+    print_line(&rt, &digest::cut(*full))
 }

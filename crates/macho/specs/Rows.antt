@@ -1,5 +1,5 @@
 -- Tests 36 to 40 of request 4, and the signature's part of a file. `f` is the lent file.
-use Rattle.std.specs.Prelude.{ℕ, ◌+◌, ◌-◌, ◌%◌, ◌<◌, ◌≤◌, List, [], ◌∷◌, ◌++◌, ◌≡◌, length, take, drop}
+use Rattle.std.specs.Prelude.{ℕ, ◌+◌, ◌-◌, ◌%◌, ◌≤◌, List, [], ◌∷◌, ◌++◌, ◌≡◌, length, take, drop}
 use Rattle.refusals.specs.Refusals.{◌<?◌, ◌≡?◌, ◌≢?◌, ◌and◌, ◌or◌, Cond, pick, lowest, Row, row, over, first, accepted}
 use Rattle.layout.specs.MachO.{mach_magic, mach_head, command_head, command_align, code_signature_type, linkedit_size, header_magic, ncmds, sizeofcmds, command_at, cmd, cmdsize, dataoff, datasize}
 use Rattle.macho.specs.declared.Span.{Span}

@@ -59,7 +59,7 @@ fn mark_page(
 }
 
 // The marks of four pages that were hashed side by side; a count of 0 says that they cannot be.
-#[derive(Drop)]
+#[derive(Clone, Copy)]
 struct FourMarks {
     count: usize,
     marks: [u8; 4],

@@ -105,7 +105,7 @@ fn round_step(s: [u32; 32], k: u32, w: [u32; 4]) -> [u32; 32]
 }
 
 // The working words, and the sixteen words of each message's schedule that are kept.
-#[derive(Drop)]
+#[derive(Clone, Copy)]
 struct State {
     s: [u32; 32],
     w: [u32; 64],

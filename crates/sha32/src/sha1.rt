@@ -77,7 +77,7 @@ fn renew_word(m: [u32; 16], i: usize) -> [u32; 16]
 }
 
 // The working words, and the sixteen words of the schedule that are kept.
-#[derive(Drop)]
+#[derive(Clone, Copy)]
 struct State {
     s: [u32; 5],
     w: [u32; 16],

@@ -129,7 +129,7 @@ fn round_at(s: [u32; 8], w: [u32; 16], k: [u32; 16], i: usize) -> [u32; 8]
 }
 
 // The working words, and the sixteen words of the schedule that are kept.
-#[derive(Drop)]
+#[derive(Clone, Copy)]
 struct State {
     s: [u32; 8],
     w: [u32; 16],

@@ -202,7 +202,7 @@ fn round_at(s: [u64; 8], w: [u64; 16], k: [u64; 16], i: usize) -> [u64; 8]
 }
 
 // The working words, and the sixteen words of the schedule that are kept.
-#[derive(Drop)]
+#[derive(Clone, Copy)]
 struct State {
     s: [u64; 8],
     w: [u64; 16],

@@ -27,7 +27,6 @@ use Rattle.directory.proofs.Numbers.{signature_rows_exact}
 use Rattle.directory.proofs.Pages.{limit_plainly}
 use Rattle.directory.proofs.Formed.{identifier, signature_exactly}
 use Rattle.macho.specs.Rows.{command_rows, span_rows, walk_rows}
-use Rattle.macho.specs.Walked.{Walked}
 use Rattle.macho.proofs.Table.{walk_rows_exact}
 use Rattle.macho.proofs.Walked.{walks_exactly}
 use Rattle.macho.proofs.Parts.{start_is, end_is, start_refused, end_refused}

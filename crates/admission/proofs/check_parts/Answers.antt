@@ -1,6 +1,5 @@
 -- A refusal by the tests stands and leaves the marks; where they pass all marks are written and judged.
 use Rattle.admission.proofs.Calls.{parts_refused, image_here, parts_judged}
-use borrow.Author.Rules.{rules}
 use Rattle.admission.proofs.check_parts.Goals as goal
 
 pub returns-then-tested-ne0 : goal.returns-then-tested-ne0

@@ -1,5 +1,4 @@
 -- Tests 32 and 33, of the page size and the code limit that are read.
-use borrow.Author.Rules.{rules}
 use Rattle.admission.proofs.input_tested.Goals as goal
 
 pub returns : goal.returns

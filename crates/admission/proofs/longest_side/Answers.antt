@@ -1,6 +1,5 @@
 -- The longer of the two lengths, by one comparison.
 use Rattle.admission.proofs.Tests.{longest_resources, longest_info}
-use borrow.Author.Rules.{rules}
 use Rattle.admission.proofs.longest_side.Goals as goal
 
 pub returns-then-a-b : goal.returns-then-a-b

@@ -1,7 +1,6 @@
 -- Each group of tests is one call. A refusal stands before all later groups, and where it passes the next decides.
 use Rattle.directory.proofs.Formed.{kind_known}
 use Rattle.admission.proofs.Tests.{formed_stops, sized_stops, sized_goes}
-use borrow.Author.Rules.{rules}
 use Rattle.admission.proofs.parts_tested.Goals as goal
 
 -- src/lib.rt:208:9

@@ -1,6 +1,5 @@
 -- A refusal by the tests stands and leaves the marks; where they pass the marks of the pages met are written and all are judged.
 use Rattle.admission.proofs.Calls.{recheck_refused, range_here, recheck_judged}
-use borrow.Author.Rules.{rules}
 use Rattle.admission.proofs.recheck.Goals as goal
 
 pub returns-then-answer-ne0 : goal.returns-then-answer-ne0

@@ -1,6 +1,5 @@
 -- Each group of tests is one call. A refusal stands before all later groups, and where it passes the next decides.
 use Rattle.admission.proofs.Tests.{call_formed_stops, counted_stops, input_stops, input_goes}
-use borrow.Author.Rules.{rules}
 use Rattle.admission.proofs.recheck_tested.Goals as goal
 
 pub returns-then-formed-ne0 : goal.returns-then-formed-ne0

@@ -2,7 +2,6 @@
 use native.Mathlib.Omega.{arith}
 use lib.ListN.{length}
 use Rattle.admission.proofs.Read.{Inside, met_inside, met_here, met_marked}
-use borrow.Author.Rules.{rules}
 use Rattle.admission.proofs.rewrite_marks.Goals as goal
 
 pub slice_bounds-mark_pages-count : goal.slice_bounds-mark_pages-count

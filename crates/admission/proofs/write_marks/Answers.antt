@@ -1,6 +1,5 @@
 -- The pages lie in the image, and the marks of all pages are those of the image.
 use Rattle.admission.proofs.Read.{all_here, all_marked}
-use borrow.Author.Rules.{rules}
 use Rattle.admission.proofs.write_marks.Goals as goal
 
 pub mark_pages-requires : goal.mark_pages-requires

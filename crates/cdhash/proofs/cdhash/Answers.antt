@@ -4,7 +4,6 @@ use native.Mathlib.Omega.{arith}
 use lib.ListN.{take}
 use Rattle.layout.specs.TrustCache.{cdhash_length}
 use Rattle.cdhash.proofs.Cut.{cut_digest}
-use borrow.Author.Rules.{rules}
 use Rattle.cdhash.proofs.cdhash.Goals as goal
 
 pub returns : goal.returns

@@ -3,7 +3,6 @@ use native.Mathlib.Omega.{arith}
 use Rattle.refusals.proofs.Joined.{stops, goes}
 use Rattle.directory.specs.Rows.{field_rows, slot_rows, blob_rows}
 use Rattle.directory.proofs.Numbers.{field_rows_unused}
-use borrow.Author.Rules.{rules}
 use Rattle.directory.proofs.blob_tested.Goals as goal
 
 pub returns-then-fields-ne0 : goal.returns-then-fields-ne0

@@ -1,7 +1,6 @@
 -- By code_limit64: 0 where the version has none.
 use native.Mathlib.Omega.{arith}
 use Rattle.directory.proofs.Pages.{limit_small, limit_large}
-use borrow.Author.Rules.{rules}
 use Rattle.directory.proofs.code_limit.Goals as goal
 
 pub returns-then-limit64-eq0 : goal.returns-then-limit64-eq0

@@ -3,7 +3,6 @@ use native.Mathlib.Omega.{arith}
 use mathlib.Core.Bool.{true, false}
 use Rattle.refusals.proofs.Conditions.{says}
 use Rattle.directory.specs.Rows.{code_outside}
-use borrow.Author.Rules.{rules}
 use Rattle.directory.proofs.code_outside.Goals as goal
 
 pub returns-then-code-eq0 : goal.returns-then-code-eq0

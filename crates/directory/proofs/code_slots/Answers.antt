@@ -1,6 +1,5 @@
 -- The slots are a part by their definition.
 use Rattle.directory.specs.Rows.{code_slots}
-use borrow.Author.Rules.{rules}
 use Rattle.directory.proofs.code_slots.Goals as goal
 
 pub returns : goal.returns

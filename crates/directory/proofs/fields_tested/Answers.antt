@@ -10,7 +10,6 @@ use Rattle.refusals.proofs.Exact.{decides, passes}
 use Rattle.layout.specs.CodeDirectory.{allowed_flags}
 use Rattle.directory.specs.Rows.{field_rows}
 use Rattle.directory.proofs.Versions.{version_known, version_unknown}
-use borrow.Author.Rules.{rules}
 use Rattle.directory.proofs.fields_tested.Goals as goal
 
 none_of : (x : ℕ) → ((x ≡ 0) ⊎ ((x ≡ 12) ⊎ (x ≡ 14)) → ⊥) → (x ≡ 0 → ⊥) × (x ≡ 12 → ⊥) × (x ≡ 14 → ⊥)

@@ -10,7 +10,6 @@ use Rattle.refusals.proofs.Conditions.{says}
 use Rattle.layout.specs.CodeDirectory.{hash_type, hash_size, slot_width}
 use Rattle.layout.proofs.Widths.{no_width, some_width}
 use Rattle.directory.specs.Rows.{hash_outside}
-use borrow.Author.Rules.{rules}
 use Rattle.directory.proofs.hash_outside.Goals as goal
 
 module _ (d : List ℕ) (size width : ℕ) (s : size ≡ hash_size d) (w : width ≡ slot_width d) where

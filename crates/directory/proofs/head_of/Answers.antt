@@ -1,7 +1,6 @@
 -- The version is the field, by its definition.
 use Rattle.directory.specs.Head.{head_of}
 use native.Mathlib.Omega.{arith}
-use borrow.Author.Rules.{rules}
 use Rattle.directory.proofs.head_of.Goals as goal
 
 pub returns : goal.returns

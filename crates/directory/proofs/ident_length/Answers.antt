@@ -1,16 +1,14 @@
 use mathlib.Core.List.{List}
 use lib.ListN.{get_or}
-use Rattle.refusals.specs.Refusals.{holds, lowest}
-use Prim.Native.Nat.{ℕ, ◌+◌, ◌-◌, ◌≤◌}
+use Rattle.refusals.specs.Refusals.{holds}
+use Prim.Native.Nat.{ℕ, ◌+◌}
 use mathlib.Core.Path.{◌≡◌, ◌∙◌}
 use native.Mathlib.Omega.{arith}
 use mathlib.Core.Bool.{true, false}
-use lib.ListN.{length}
 use Rattle.refusals.proofs.Conditions.{says}
 use Rattle.refusals.proofs.Positions.{lowest_none, lowest_more, lowest_stop, lowest_end}
 use Rattle.layout.specs.CodeDirectory.{ident_offset}
 use Rattle.directory.specs.Rows.{zero_at, ident_length}
-use borrow.Author.Rules.{rules}
 use Rattle.directory.proofs.ident_length.Goals as goal
 
 not_zero : (d : List ℕ) (i b : ℕ) → b ≡ get_or d (ident_offset d + i) 0 → (b ≡ 0 → ⊥) → false ≡ holds (zero_at d i)

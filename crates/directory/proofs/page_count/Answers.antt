@@ -1,6 +1,5 @@
 -- By definition, from the fields that are read.
 use Rattle.directory.specs.Pages.{pages}
-use borrow.Author.Rules.{rules}
 use Rattle.directory.proofs.page_count.Goals as goal
 
 pub returns : goal.returns

@@ -1,6 +1,5 @@
 -- By definition, from the fields that are read.
 use Rattle.directory.specs.Pages.{P}
-use borrow.Author.Rules.{rules}
 use Rattle.directory.proofs.page_size.Goals as goal
 
 pub returns : goal.returns

@@ -1,7 +1,6 @@
 -- By the version.
 use native.Mathlib.Omega.{arith}
 use Rattle.directory.proofs.Since.{since_older, since_has}
-use borrow.Author.Rules.{rules}
 use Rattle.directory.proofs.scatter_of.Goals as goal
 
 pub returns-then-head-lt-SCATTER_VERSION : goal.returns-then-head-lt-SCATTER_VERSION

@@ -4,7 +4,6 @@ use mathlib.Core.Path.{◌∙◌, ap}
 use native.Mathlib.Omega.{arith}
 use Rattle.layout.specs.CodeDirectory.{width_of, slot_width}
 use Rattle.layout.proofs.Widths.{slots_below}
-use borrow.Author.Rules.{rules}
 use Rattle.directory.proofs.slot_bytes.Goals as goal
 
 fits_word : (kind n : ℕ) → n < 4294967296 → width_of kind * n < 2 ^ 64

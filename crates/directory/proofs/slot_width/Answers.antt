@@ -2,7 +2,6 @@
 use mathlib.Core.Path.{◌∙◌, ap}
 use native.Mathlib.Omega.{arith}
 use Rattle.layout.specs.CodeDirectory.{width_of, slot_width}
-use borrow.Author.Rules.{rules}
 use Rattle.directory.proofs.slot_width.Goals as goal
 
 pub returns : goal.returns

@@ -6,7 +6,6 @@ use Rattle.refusals.specs.Refusals.{Cond, ◌or◌, holds, Says, accepted}
 use Rattle.refusals.proofs.Conditions.{says, said, held, fell}
 use Rattle.refusals.proofs.Exact.{decides, passes}
 use Rattle.directory.specs.Rows.{slot_rows, special_outside, code_outside}
-use borrow.Author.Rules.{rules}
 use Rattle.directory.proofs.slots_tested.Goals as goal
 
 one_holds : (k l : Cond) → Says true k → Says true (k or l)

@@ -2,7 +2,6 @@
 use Prim.Native.Nat.{ℕ, ◌*◌}
 use mathlib.Core.Path.{◌∙◌, ap}
 use Rattle.layout.specs.CodeDirectory.{slot_width}
-use borrow.Author.Rules.{rules}
 use Rattle.directory.proofs.special_bytes.Goals as goal
 
 pub returns : goal.returns

@@ -3,7 +3,6 @@ use native.Mathlib.Omega.{arith}
 use mathlib.Core.Bool.{true, false}
 use Rattle.refusals.proofs.Conditions.{says}
 use Rattle.directory.specs.Rows.{special_outside}
-use borrow.Author.Rules.{rules}
 use Rattle.directory.proofs.special_outside.Goals as goal
 
 pub returns-then-special-eq0 : goal.returns-then-special-eq0

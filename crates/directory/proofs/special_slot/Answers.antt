@@ -1,5 +1,5 @@
 -- Outside 1 to n_special_slots there is no slot. A slot that would start before the directory starts at 0, as a difference stops there.
-use Prim.Native.Nat.{ℕ, ◌-◌, ◌*◌, ◌<◌, ◌≤◌}
+use Prim.Native.Nat.{ℕ, ◌-◌, ◌*◌, ◌<◌}
 use mathlib.Core.Bool.{true, false}
 use mathlib.Core.List.{List, []}
 use mathlib.Core.Path.{◌≡◌, ◌∙◌}
@@ -9,7 +9,6 @@ use Rattle.refusals.specs.Refusals.{◌≤?◌, ◌and◌, Says}
 use Rattle.refusals.proofs.Conditions.{says}
 use Rattle.layout.specs.CodeDirectory.{slot_width, hash_offset, n_special_slots}
 use Rattle.directory.specs.Rows.{special_slot}
-use borrow.Author.Rules.{rules}
 use Rattle.directory.proofs.special_slot.Goals as goal
 
 abbrev Stated : List ℕ → ℕ → Type 0

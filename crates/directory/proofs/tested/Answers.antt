@@ -4,7 +4,6 @@ use Rattle.refusals.proofs.Joined.{stops}
 use Rattle.superblob.specs.Rows.{rows}
 use Rattle.directory.specs.Rows.{directory_rows, signature_rows}
 use Rattle.directory.proofs.Found.{found_none, found_some}
-use borrow.Author.Rules.{rules}
 use Rattle.directory.proofs.tested.Goals as goal
 
 pub returns-then-blobs-ne0 : goal.returns-then-blobs-ne0

@@ -1,8 +1,6 @@
-use Prim.Native.Nat.{◌+◌, ◌-◌, ◌^◌, ◌<◌, ◌≤◌}
 use mathlib.Core.Path.{◌≡◌}
 use native.Mathlib.Omega.{arith}
 use borrow.Author.Rules.{rules}
-use Rattle.endian.specs.Numbers.{big}
 use Rattle.endian.proofs.Laws.{big_none, big_more, grows, fits}
 use Rattle.endian.proofs.big_endian.Goals as goal
 

@@ -1,10 +1,7 @@
 -- The loop holds the number that the first i bytes make: each turn puts one more byte after them.
 use Prim.Native.Nat.{◌+◌, ◌-◌, ◌^◌, ◌<◌, ◌≤◌}
 use mathlib.Core.Path.{◌≡◌}
-use native.Mathlib.Omega.{arith}
-use borrow.Author.Rules.{rules}
 use Rattle.endian.specs.Numbers.{big}
-use Rattle.endian.proofs.Laws.{big_none, big_more, grows, fits}
 use Rattle.endian.proofs.big_endian.Given as goal
 
 abbrev pub invariant-loop-i : goal.invariant-loop-i

@@ -1,8 +1,7 @@
-use Prim.Native.Nat.{◌+◌, ◌-◌, ◌^◌, ◌<◌, ◌≤◌}
+use Prim.Native.Nat.{◌+◌, ◌-◌}
 use mathlib.Core.Path.{◌≡◌}
 use native.Mathlib.Omega.{arith}
 use borrow.Author.Rules.{rules}
-use Rattle.endian.specs.Numbers.{little}
 use Rattle.endian.proofs.Laws.{little_none, little_more, grows, fits}
 use Rattle.endian.proofs.little_endian.Goals as goal
 

@@ -1,10 +1,7 @@
 -- The loop holds the number that the last i bytes make: each turn puts one more byte before them.
 use Prim.Native.Nat.{◌+◌, ◌-◌, ◌^◌, ◌<◌, ◌≤◌}
 use mathlib.Core.Path.{◌≡◌}
-use native.Mathlib.Omega.{arith}
-use borrow.Author.Rules.{rules}
 use Rattle.endian.specs.Numbers.{little}
-use Rattle.endian.proofs.Laws.{little_none, little_more, grows, fits}
 use Rattle.endian.proofs.little_endian.Given as goal
 
 abbrev pub invariant-loop-i : goal.invariant-loop-i

@@ -4,7 +4,6 @@ use Prim.Native.Nat.{◌+◌, ◌-◌}
 use mathlib.Core.Path.{sym}
 use native.Mathlib.Nat.{div-le_self}
 use Rattle.geometry.proofs.Pages.{end_empty, end_zero, range_end}
-use borrow.Author.Rules.{rules}
 use Rattle.geometry.proofs.end_met.Goals as goal
 
 pub returns-then-size-eq0 : goal.returns-then-size-eq0

@@ -2,7 +2,6 @@
 use native.Mathlib.Omega.{arith}
 use mathlib.Core.Path.{sym}
 use Rattle.geometry.proofs.Pages.{first_empty, first_zero, range_first}
-use borrow.Author.Rules.{rules}
 use Rattle.geometry.proofs.first_met.Goals as goal
 
 pub returns-then-size-eq0 : goal.returns-then-size-eq0

@@ -3,7 +3,6 @@ use native.Mathlib.Omega.{arith}
 use Prim.Native.Nat.{◌-◌}
 use native.Mathlib.Nat.{div-le_self}
 use Rattle.geometry.proofs.Pages.{count_zero, count_none, count_pos}
-use borrow.Author.Rules.{rules}
 use Rattle.geometry.proofs.page_count.Goals as goal
 
 pub returns-then-limit-eq0 : goal.returns-then-limit-eq0

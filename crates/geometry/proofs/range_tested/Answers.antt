@@ -3,7 +3,6 @@ use native.Mathlib.Omega.{arith}
 use Rattle.refusals.specs.Refusals.{accepted}
 use Rattle.refusals.proofs.Exact.{decides, passes}
 use Rattle.geometry.specs.Pages.{range_rows}
-use borrow.Author.Rules.{rules}
 use Rattle.geometry.proofs.range_tested.Goals as goal
 
 pub returns-then-limit-start : goal.returns-then-limit-start

@@ -1,7 +1,6 @@
 -- The last page met starts below the limit, and ends where the pages met end.
 use native.Mathlib.Omega.{arith}
 use Rattle.geometry.proofs.Pages.{wanted_none, Ranged, ranged}
-use borrow.Author.Rules.{rules}
 use Rattle.geometry.proofs.wanted_bytes.Goals.{After-end_met-end}
 use Rattle.geometry.proofs.wanted_bytes.Goals as goal
 

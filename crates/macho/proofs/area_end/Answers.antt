@@ -1,7 +1,6 @@
 -- The area stands behind the header.
 use native.Mathlib.Omega.{arith}
 use Rattle.macho.specs.Rows.{area_end}
-use borrow.Author.Rules.{rules}
 use Rattle.macho.proofs.area_end.Goals as goal
 
 pub returns : goal.returns

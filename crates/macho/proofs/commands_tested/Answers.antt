@@ -6,7 +6,6 @@ use Rattle.refusals.specs.Refusals.{accepted}
 use Rattle.refusals.proofs.Exact.{decides, passes}
 use Rattle.macho.specs.Rows.{malformed_command, command_rows}
 use Rattle.macho.proofs.Table.{count_refused, command_refused}
-use borrow.Author.Rules.{rules}
 use Rattle.macho.proofs.commands_tested.Goals as goal
 
 pub returns-then-file-lt-HEAD : goal.returns-then-file-lt-HEAD

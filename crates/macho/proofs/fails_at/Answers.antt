@@ -1,7 +1,6 @@
 -- By the test: each answer is its definition.
 use Rattle.refusals.specs.Refusals.{holds}
 use Rattle.macho.specs.Rows.{is_signature}
-use borrow.Author.Rules.{rules}
 use Rattle.macho.proofs.fails_at.Goals as goal
 
 pub returns-in-Malformed : goal.returns-in-Malformed

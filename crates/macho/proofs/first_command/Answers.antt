@@ -1,10 +1,5 @@
-use Prim.Native.Nat.{◌+◌, ◌-◌, ◌*◌, ◌≤◌}
-use mathlib.Core.Path.{◌≡◌}
 use native.Mathlib.Omega.{arith}
-use Rattle.refusals.specs.Refusals.{lowest}
 use Rattle.refusals.proofs.Positions.{lowest_none, lowest_more, lowest_stop, lowest_end}
-use Rattle.layout.specs.MachO.{mach_head, ncmds, command_at}
-use Rattle.macho.specs.Commands.{failing}
 use Rattle.macho.proofs.Commands.{starts_behind, starts_next}
 use borrow.Author.Rules.{rules}
 use Rattle.macho.proofs.first_command.Goals as goal
@@ -17,9 +12,9 @@ fails_at-requires c = record { at_is = search rules; at_most = omega arith }
 
 pub returns-then-fails_at : goal.returns-then-fails_at
 returns-then-fails_at c = record {
-      index_is = lowest_stop _ _ _ (omega arith) (cc) (cc);
-      stands = record { at_is = search rules; at_most = omega arith };
-    }
+  index_is = lowest_stop _ _ _ (omega arith) (cc) (cc);
+  stands = record { at_is = search rules; at_most = omega arith };
+}
 
 pub size_of-at-requires : goal.size_of-at-requires
 size_of-at-requires c = record { at_is = search rules; at_most = omega arith }
@@ -38,6 +33,6 @@ loop-i-preserved c = (omega arith, omega arith, starts_next _ _ _ _ (search rule
 
 pub returns : goal.returns
 returns c = record {
-      index_is = lowest_end _ _ _ (omega arith) (cc);
-      stands = record { at_is = search rules; at_most = omega arith };
-    }
+  index_is = lowest_end _ _ _ (omega arith) (cc);
+  stands = record { at_is = search rules; at_most = omega arith };
+}

@@ -2,13 +2,9 @@
 -- behind the header make no sum that wraps, whatever the bytes are.
 use Prim.Native.Nat.{◌+◌, ◌-◌, ◌*◌, ◌≤◌}
 use mathlib.Core.Path.{◌≡◌}
-use native.Mathlib.Omega.{arith}
 use Rattle.refusals.specs.Refusals.{lowest}
-use Rattle.refusals.proofs.Positions.{lowest_none, lowest_more, lowest_stop, lowest_end}
 use Rattle.layout.specs.MachO.{mach_head, ncmds, command_at}
 use Rattle.macho.specs.Commands.{failing}
-use Rattle.macho.proofs.Commands.{starts_behind, starts_next}
-use borrow.Author.Rules.{rules}
 use Rattle.macho.proofs.first_command.Given as goal
 
 abbrev pub invariant-loop-i : goal.invariant-loop-i

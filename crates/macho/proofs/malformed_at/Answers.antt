@@ -3,7 +3,6 @@ use mathlib.Core.Bool.{true, false}
 use native.Mathlib.Omega.{arith}
 use Rattle.refusals.proofs.Conditions.{says}
 use Rattle.macho.specs.Rows.{malformed}
-use borrow.Author.Rules.{rules}
 use Rattle.macho.proofs.malformed_at.Goals as goal
 
 pub returns-then-end-head : goal.returns-then-end-head

@@ -2,7 +2,6 @@
 use native.Mathlib.Omega.{arith}
 use Rattle.macho.specs.Rows.{signature_command}
 use Rattle.macho.proofs.Parts.{span_refused, few, span_found}
-use borrow.Author.Rules.{rules}
 use Rattle.macho.proofs.signature_span.Goals as goal
 
 pub returns-then-tested-ne0 : goal.returns-then-tested-ne0

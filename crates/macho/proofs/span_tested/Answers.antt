@@ -6,7 +6,6 @@ use Rattle.refusals.specs.Refusals.{accepted}
 use Rattle.refusals.proofs.Exact.{decides, passes}
 use Rattle.macho.specs.Rows.{signature_command, span_rows}
 use Rattle.macho.proofs.Table.{wrong_first, end_first}
-use borrow.Author.Rules.{rules}
 use Rattle.macho.proofs.span_tested.Goals as goal
 
 pub returns-then-index-n : goal.returns-then-index-n

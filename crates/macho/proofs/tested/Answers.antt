@@ -3,7 +3,6 @@ use native.Mathlib.Omega.{arith}
 use Rattle.refusals.proofs.Joined.{stops, goes}
 use Rattle.macho.specs.Rows.{command_rows, span_rows, walk_rows}
 use Rattle.macho.proofs.Table.{command_rows_unused, few_commands}
-use borrow.Author.Rules.{rules}
 use Rattle.macho.proofs.tested.Goals as goal
 
 pub returns-then-commands-ne0 : goal.returns-then-commands-ne0

@@ -1,6 +1,5 @@
 -- The type is read where the command starts.
 use Rattle.layout.specs.MachO.{cmd}
-use borrow.Author.Rules.{rules}
 use Rattle.macho.proofs.type_of.Goals as goal
 
 pub returns : goal.returns

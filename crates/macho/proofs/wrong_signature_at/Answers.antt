@@ -3,7 +3,6 @@ use mathlib.Core.Bool.{true, false}
 use native.Mathlib.Omega.{arith}
 use Rattle.refusals.proofs.Conditions.{says}
 use Rattle.macho.specs.Rows.{is_signature, wrong_signature}
-use borrow.Author.Rules.{rules}
 use Rattle.macho.proofs.wrong_signature_at.Goals as goal
 
 pub returns-then-type_of-ne-CODE_SIGNATURE : goal.returns-then-type_of-ne-CODE_SIGNATURE

@@ -3,7 +3,6 @@ use native.Mathlib.Omega.{arith}
 use Rattle.refusals.specs.Refusals.{refuse}
 use Rattle.refusals.proofs.Exact.{decides, passes}
 use Rattle.marks.specs.Marks.{judged, bad_rows}
-use borrow.Author.Rules.{rules}
 use Rattle.marks.proofs.judge.Goals as goal
 
 pub returns-then-page-marks : goal.returns-then-page-marks

@@ -1,9 +1,5 @@
 use native.Mathlib.Omega.{arith}
-use Prim.Native.Nat.{◌-◌, ◌≤◌}
-use mathlib.Core.Path.{◌≡◌}
 use mathlib.Core.Bool.{true, false}
-use lib.ListN.{length}
-use Rattle.refusals.specs.Refusals.{lowest}
 use Rattle.refusals.proofs.Conditions.{says}
 use Rattle.refusals.proofs.Positions.{lowest_none, lowest_more, lowest_stop, lowest_end}
 use Rattle.marks.specs.Marks.{differs}

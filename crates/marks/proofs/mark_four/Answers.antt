@@ -6,7 +6,6 @@ use Rattle.geometry.proofs.Pages.{count_most}
 use Rattle.marks.specs.Marks.{slots_of_kind, mark_in}
 use Rattle.marks.proofs.Tabs.{tab_four}
 use Rattle.marks.proofs.Marking.{page_before, slot_before, page_mark}
-use borrow.Author.Rules.{rules}
 use Rattle.marks.proofs.mark_four.Goals as goal
 
 pub overflow_add-n1 : goal.overflow_add-n1

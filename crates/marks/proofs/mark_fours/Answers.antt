@@ -1,13 +1,11 @@
-use Prim.Native.Nat.{◌+◌, ◌-◌, ◌≤◌}
-use mathlib.Core.Path.{◌≡◌, refl}
-use mathlib.Core.List.{◌++◌}
+use Prim.Native.Nat.{◌+◌}
+use mathlib.Core.Path.{refl}
 use native.Mathlib.Omega.{arith}
-use lib.ListN.{length, drop, length-set}
+use lib.ListN.{length, length-set}
 use Rattle.geometry.proofs.Pages.{count_most}
-use Rattle.marks.specs.Marks.{slots_of_kind, mark_in, tab}
+use Rattle.marks.specs.Marks.{slots_of_kind, mark_in}
 use Rattle.marks.proofs.Tabs.{tab_none, tab_more_four, four_at}
 use Rattle.marks.proofs.Marking.{page_of_here}
-use borrow.Author.Rules.{rules}
 use Rattle.marks.proofs.mark_fours.Goals as goal
 
 pub loop-marks-init : goal.loop-marks-init

@@ -6,7 +6,6 @@ use lib.ListN.{length}
 use Rattle.layout.specs.CodeDirectory.{width_of}
 use Rattle.marks.specs.Marks.{slots_of_kind}
 use Rattle.marks.proofs.Marking.{slot_before, cut_mark}
-use borrow.Author.Rules.{rules}
 use Rattle.marks.proofs.mark_of.Goals as goal
 
 -- slot m of those that reach up to slot n, as the product and as the end of the slot

@@ -2,7 +2,6 @@
 use native.Mathlib.Omega.{arith}
 use Rattle.marks.specs.Marks.{slots_of_kind}
 use Rattle.marks.proofs.Marking.{slot_before, page_mark}
-use borrow.Author.Rules.{rules}
 use Rattle.marks.proofs.mark_page.Goals as goal
 
 pub mark_of-requires : goal.mark_of-requires

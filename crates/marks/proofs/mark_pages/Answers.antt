@@ -1,13 +1,12 @@
-use Prim.Native.Nat.{ℕ, ◌-◌, ◌≤◌}
-use mathlib.Core.Path.{◌≡◌, refl, ap, ◌∙◌}
-use mathlib.Core.List.{List, ◌++◌}
+use Prim.Native.Nat.{ℕ}
+use mathlib.Core.Path.{refl, ap, ◌∙◌}
+use mathlib.Core.List.{List}
 use native.Mathlib.Omega.{arith}
-use lib.ListN.{length, drop, set, length-set}
+use lib.ListN.{length, set, length-set}
 use Rattle.geometry.proofs.Pages.{count_most}
-use Rattle.marks.specs.Marks.{slots_of_kind, mark_in, tab, marks_from}
+use Rattle.marks.specs.Marks.{marks_from}
 use Rattle.marks.proofs.Tabs.{tab_kept, tab_more, tab_all}
 use Rattle.marks.proofs.Marking.{page_of_here}
-use borrow.Author.Rules.{rules}
 use Rattle.marks.proofs.mark_pages.Goals as goal
 
 pub loop-i-init : goal.loop-i-init
@@ -30,10 +29,10 @@ loop-i-smaller c = omega arith
 
 pub loop-i-preserved : goal.loop-i-preserved
 loop-i-preserved c = let l = c.loop-i in (
-      omega arith,
-      length-set l.marks l.i c.mark_page-m.result ∙ l.invariant.1,
-      ap (λ (m : List ℕ). set m l.i c.mark_page-m.result) l.invariant.2 ∙ tab_more _ l.i _ _ _ (omega arith) c.mark_page-m.ensures,
-    )
+  omega arith,
+  length-set l.marks l.i c.mark_page-m.result ∙ l.invariant.1,
+  ap (λ (m : List ℕ). set m l.i c.mark_page-m.result) l.invariant.2 ∙ tab_more _ l.i _ _ _ (omega arith) c.mark_page-m.ensures,
+)
 
 pub shape_of-marks : goal.shape_of-marks
 shape_of-marks c = omega arith

@@ -1,14 +1,9 @@
 -- The first i marks are those of the pages from `from` on, and the others are as the fours left them.
-use Prim.Native.Nat.{ℕ, ◌-◌, ◌≤◌}
-use mathlib.Core.Path.{◌≡◌, refl, ap, ◌∙◌}
-use mathlib.Core.List.{List, ◌++◌}
-use native.Mathlib.Omega.{arith}
-use lib.ListN.{length, drop, set, length-set}
-use Rattle.geometry.proofs.Pages.{count_most}
-use Rattle.marks.specs.Marks.{slots_of_kind, mark_in, tab, marks_from}
-use Rattle.marks.proofs.Tabs.{tab_kept, tab_more, tab_all}
-use Rattle.marks.proofs.Marking.{page_of_here}
-use borrow.Author.Rules.{rules}
+use Prim.Native.Nat.{◌-◌, ◌≤◌}
+use mathlib.Core.Path.{◌≡◌}
+use mathlib.Core.List.{◌++◌}
+use lib.ListN.{length, drop}
+use Rattle.marks.specs.Marks.{slots_of_kind, mark_in, tab}
 use Rattle.marks.proofs.mark_pages.Given as goal
 
 abbrev pub invariant-loop-i : goal.invariant-loop-i

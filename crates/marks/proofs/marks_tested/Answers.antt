@@ -3,7 +3,6 @@ use native.Mathlib.Omega.{arith}
 use Rattle.refusals.specs.Refusals.{accepted}
 use Rattle.refusals.proofs.Exact.{decides, passes}
 use Rattle.marks.specs.Marks.{mark_rows}
-use borrow.Author.Rules.{rules}
 use Rattle.marks.proofs.marks_tested.Goals as goal
 
 pub returns-then-page-marks : goal.returns-then-page-marks

@@ -4,7 +4,6 @@ use mathlib.Core.Path.{◌≡◌, ap}
 use native.Mathlib.Omega.{arith}
 use Rattle.geometry.specs.Pages.{page_end, part}
 use Rattle.geometry.proofs.Pages.{count_of, Within, within}
-use borrow.Author.Rules.{rules}
 use Rattle.marks.proofs.page_bytes.Goals as goal
 
 pub overflow_mul-base : goal.overflow_mul-base

@@ -1,11 +1,7 @@
 -- No byte before i is other than zero; the loop stops at the first that is.
 use Prim.Native.Nat.{ℕ, ◌-◌, ◌<◌, ◌≤◌}
 use mathlib.Core.Path.{◌≡◌}
-use native.Mathlib.Omega.{arith}
 use lib.ListN.{length, get_or}
-use borrow.Author.Rules.{rules}
-use Rattle.slots.proofs.Zeros.{not_all_zero, every_zero}
-use borrow.Author.Count.{below_more}
 use Rattle.slots.proofs.all_zero.Given as goal
 
 abbrev pub invariant-loop-i : goal.invariant-loop-i

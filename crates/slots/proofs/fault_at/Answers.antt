@@ -2,7 +2,6 @@
 use mathlib.Core.Logic.{inl, inr}
 use native.Mathlib.Omega.{arith}
 use Rattle.slots.proofs.Laws.{fault_zero, fault_info, fault_resources, fault_nothing, fault_blob}
-use borrow.Author.Rules.{rules}
 use Rattle.slots.proofs.fault_at.Goals as goal
 
 pub returns-in-0 : goal.returns-in-0

@@ -2,7 +2,6 @@
 use native.Mathlib.Omega.{arith}
 use mathlib.Core.Path.{◌∙◌}
 use Rattle.slots.proofs.Laws.{by_kind, fault_empty, fault_none, fault_missing, fault_agrees, fault_differs}
-use borrow.Author.Rules.{rules}
 use Rattle.slots.proofs.fault_of.Goals as goal
 
 pub returns-then-there : goal.returns-then-there

@@ -1,12 +1,8 @@
 -- No slot below k has a fault; the loop stops at the first that has. Assumes nothing.
 use Prim.Native.Nat.{◌-◌, ◌≤◌}
 use mathlib.Core.Path.{◌≡◌}
-use native.Mathlib.Omega.{arith}
-use borrow.Author.Rules.{rules}
 use Rattle.refusals.specs.Refusals.{lowest, faulty}
-use Rattle.refusals.proofs.Positions.{lowest_more, lowest_stop, lowest_end}
 use Rattle.slots.specs.Slots.{sides, fault}
-use Rattle.slots.proofs.Laws.{first_slot, slot_fails, slot_passes}
 use Rattle.slots.proofs.lowest_fault.Given as goal
 
 abbrev pub invariant-loop-k : goal.invariant-loop-k

@@ -1,7 +1,6 @@
 -- The lowest slot with a fault decides, and its fault is 21, 22 or 23 (`slots_refuse`). Assumes nothing.
 use native.Mathlib.Omega.{arith}
 use Rattle.slots.proofs.Laws.{slots_pass, slots_refuse}
-use borrow.Author.Rules.{rules}
 use Rattle.slots.proofs.tested.Goals as goal
 
 pub returns-then-k-gt-MOST_SPECIAL_SLOTS : goal.returns-then-k-gt-MOST_SPECIAL_SLOTS

@@ -1,7 +1,6 @@
 -- By the clash: the tests are the definitions.
 use Rattle.refusals.specs.Refusals.{holds}
 use Rattle.superblob.specs.Rows.{same_type}
-use borrow.Author.Rules.{rules}
 use Rattle.superblob.proofs.clashes.Goals as goal
 
 pub returns-in-SlotType : goal.returns-in-SlotType

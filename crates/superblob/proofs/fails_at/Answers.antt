@@ -1,7 +1,6 @@
 -- By the test: each answer is its definition.
 use Rattle.refusals.specs.Refusals.{holds}
 use Rattle.superblob.specs.Rows.{unknown, repeated, wrong_magic, overlaps}
-use borrow.Author.Rules.{rules}
 use Rattle.superblob.proofs.fails_at.Goals as goal
 
 pub returns-in-Known : goal.returns-in-Known

@@ -1,6 +1,5 @@
 -- The part from start to end is the blob, by its definition.
 use Rattle.superblob.specs.Rows.{blob}
-use borrow.Author.Rules.{rules}
 use Rattle.superblob.proofs.find.Goals as goal
 
 pub returns : goal.returns

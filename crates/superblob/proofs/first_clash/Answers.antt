@@ -1,10 +1,5 @@
-use Prim.Native.Nat.{◌-◌, ◌≤◌}
-use mathlib.Core.Path.{◌≡◌}
 use native.Mathlib.Omega.{arith}
-use Rattle.refusals.specs.Refusals.{lowest}
 use Rattle.refusals.proofs.Positions.{lowest_none, lowest_more, lowest_stop, lowest_end}
-use Rattle.superblob.specs.Rows.{clashing}
-use borrow.Author.Rules.{rules}
 use Rattle.superblob.proofs.first_clash.Goals as goal
 
 pub loop-j-init : goal.loop-j-init

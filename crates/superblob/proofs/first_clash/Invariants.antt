@@ -1,11 +1,8 @@
 -- The search has passed every position below j without a clash.
 use Prim.Native.Nat.{◌-◌, ◌≤◌}
 use mathlib.Core.Path.{◌≡◌}
-use native.Mathlib.Omega.{arith}
 use Rattle.refusals.specs.Refusals.{lowest}
-use Rattle.refusals.proofs.Positions.{lowest_none, lowest_more, lowest_stop, lowest_end}
 use Rattle.superblob.specs.Rows.{clashing}
-use borrow.Author.Rules.{rules}
 use Rattle.superblob.proofs.first_clash.Given as goal
 
 abbrev pub invariant-loop-j : goal.invariant-loop-j

@@ -1,11 +1,5 @@
-use Prim.Native.Nat.{◌-◌, ◌≤◌}
-use mathlib.Core.Path.{◌≡◌}
 use native.Mathlib.Omega.{arith}
-use Rattle.refusals.specs.Refusals.{lowest}
 use Rattle.refusals.proofs.Positions.{lowest_none, lowest_more, lowest_stop, lowest_end}
-use Rattle.layout.specs.SuperBlob.{count}
-use Rattle.superblob.specs.Rows.{failing}
-use borrow.Author.Rules.{rules}
 use Rattle.superblob.proofs.first_failing.Goals as goal
 
 pub loop-i-init : goal.loop-i-init

@@ -1,12 +1,9 @@
 -- The search has passed every position below i without a failure.
 use Prim.Native.Nat.{◌-◌, ◌≤◌}
 use mathlib.Core.Path.{◌≡◌}
-use native.Mathlib.Omega.{arith}
 use Rattle.refusals.specs.Refusals.{lowest}
-use Rattle.refusals.proofs.Positions.{lowest_none, lowest_more, lowest_stop, lowest_end}
 use Rattle.layout.specs.SuperBlob.{count}
 use Rattle.superblob.specs.Rows.{failing}
-use borrow.Author.Rules.{rules}
 use Rattle.superblob.proofs.first_failing.Given as goal
 
 abbrev pub invariant-loop-i : goal.invariant-loop-i

@@ -1,7 +1,6 @@
 -- The position of the type against the count: by definition.
 use Rattle.refusals.specs.Refusals.{holds}
 use Rattle.superblob.specs.Rows.{has}
-use borrow.Author.Rules.{rules}
 use Rattle.superblob.proofs.has.Goals as goal
 
 pub returns : goal.returns

@@ -4,7 +4,6 @@ use native.Mathlib.Omega.{arith}
 use Rattle.refusals.specs.Refusals.{accepted}
 use Rattle.refusals.proofs.Exact.{decides, passes}
 use Rattle.superblob.specs.Rows.{head_rows}
-use borrow.Author.Rules.{rules}
 use Rattle.superblob.proofs.head_tested.Goals as goal
 
 pub returns-then-sig-lt-HEAD : goal.returns-then-sig-lt-HEAD

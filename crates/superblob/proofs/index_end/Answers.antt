@@ -1,7 +1,6 @@
 -- The index is `count` entries behind the head.
 use Rattle.layout.specs.SuperBlob.{index_end}
 use native.Mathlib.Omega.{arith}
-use borrow.Author.Rules.{rules}
 use Rattle.superblob.proofs.index_end.Goals as goal
 
 pub returns : goal.returns

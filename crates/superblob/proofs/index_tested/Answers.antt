@@ -4,7 +4,6 @@ use native.Mathlib.Omega.{arith}
 use Rattle.refusals.specs.Refusals.{accepted}
 use Rattle.refusals.proofs.Exact.{decides, passes}
 use Rattle.superblob.specs.Rows.{index_rows}
-use borrow.Author.Rules.{rules}
 use Rattle.superblob.proofs.index_tested.Goals as goal
 
 pub returns-then-unknown-n : goal.returns-then-unknown-n

@@ -1,6 +1,5 @@
 -- The blob is read at the offset of its index entry.
 use Rattle.layout.specs.SuperBlob.{blob_magic}
-use borrow.Author.Rules.{rules}
 use Rattle.superblob.proofs.magic_at.Goals as goal
 
 pub returns : goal.returns

@@ -3,7 +3,6 @@ use native.Mathlib.Omega.{arith}
 use Rattle.superblob.specs.Rows.{outside}
 use Rattle.refusals.proofs.Conditions.{says}
 use mathlib.Core.Bool.{true, false}
-use borrow.Author.Rules.{rules}
 use Rattle.superblob.proofs.outside_at.Goals as goal
 
 pub returns-then-offset-index_end : goal.returns-then-offset-index_end

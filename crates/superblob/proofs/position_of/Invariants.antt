@@ -1,14 +1,9 @@
 -- The search has passed every position below i without the type.
 use Prim.Native.Nat.{◌-◌, ◌≤◌}
 use mathlib.Core.Path.{◌≡◌}
-use native.Mathlib.Omega.{arith}
-use Rattle.superblob.specs.Rows.{of_type, position}
-use Rattle.refusals.proofs.Conditions.{says}
+use Rattle.superblob.specs.Rows.{of_type}
 use Rattle.refusals.specs.Refusals.{lowest}
-use Rattle.refusals.proofs.Positions.{lowest_none, lowest_more, lowest_stop, lowest_end}
-use mathlib.Core.Bool.{true, false}
 use Rattle.layout.specs.SuperBlob.{count}
-use borrow.Author.Rules.{rules}
 use Rattle.superblob.proofs.position_of.Given as goal
 
 abbrev pub invariant-loop-i : goal.invariant-loop-i

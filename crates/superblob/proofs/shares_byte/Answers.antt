@@ -3,7 +3,6 @@ use native.Mathlib.Omega.{arith}
 use mathlib.Core.Bool.{true, false}
 use Rattle.refusals.proofs.Conditions.{says}
 use Rattle.superblob.specs.Rows.{shared}
-use borrow.Author.Rules.{rules}
 use Rattle.superblob.proofs.shares_byte.Goals as goal
 
 pub returns-then-b-length_at : goal.returns-then-b-length_at

@@ -1,5 +1,4 @@
 -- The offset at the position of the type: by definition.
-use borrow.Author.Rules.{rules}
 use Rattle.superblob.proofs.start_of.Goals as goal
 
 pub returns : goal.returns

@@ -3,7 +3,6 @@ use native.Mathlib.Omega.{arith}
 use Rattle.refusals.proofs.Joined.{stops, goes}
 use Rattle.superblob.specs.Rows.{head_rows, index_rows, rows}
 use Rattle.superblob.proofs.Numbers.{head_rows_unused}
-use borrow.Author.Rules.{rules}
 use Rattle.superblob.proofs.tested.Goals as goal
 
 pub returns-then-head-ne0 : goal.returns-then-head-ne0

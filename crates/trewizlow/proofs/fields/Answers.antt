@@ -1,7 +1,6 @@
 -- Each field is the one that the constructor or its reader gives, of the directory that is found. Assumes nothing.
 use mathlib.Core.Path.{ap, ◌∙◌}
 use lib.ListN.{length}
-use borrow.Author.Rules.{rules}
 use Rattle.trewizlow.specs.Interface.{fields_of}
 use Rattle.trewizlow.proofs.fields.Goals as goal
 

@@ -1,7 +1,6 @@
 -- The same two ways as in reading: zeros, or the digest of the directory cut to 20. Assumes nothing.
 use mathlib.Core.Path.{ap, ◌∙◌}
 use native.Mathlib.Omega.{arith}
-use borrow.Author.Rules.{rules}
 use Rattle.directory.proofs.Formed.{kind_known}
 use Rattle.cdhash.specs.Hash.{cdhash}
 use Rattle.trewizlow.specs.Interface.{hash_with}

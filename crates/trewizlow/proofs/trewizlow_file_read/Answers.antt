@@ -1,6 +1,5 @@
 -- The callee's equations. Assumes nothing.
 use Prim.Native.Nat.{◌-◌}
-use borrow.Author.Rules.{rules}
 use Rattle.trewizlow.specs.Interface.{file_signature}
 use Rattle.trewizlow.proofs.trewizlow_file_read.Goals as goal
 

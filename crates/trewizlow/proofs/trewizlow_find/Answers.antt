@@ -1,6 +1,5 @@
 -- The callee's equations; the part's length is the difference of its ends (`span_length`). Assumes nothing.
 use Rattle.trewizlow.proofs.Laws.{span_length}
-use borrow.Author.Rules.{rules}
 use Rattle.trewizlow.specs.Interface.{blob_part}
 use Rattle.trewizlow.proofs.trewizlow_find.Goals as goal
 

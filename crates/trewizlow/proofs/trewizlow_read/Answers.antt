@@ -1,7 +1,6 @@
 -- Where a test refuses every field is 0, and where none does it is what is read. Assumes nothing.
 use mathlib.Core.Path.{◌∙◌}
 use native.Mathlib.Omega.{arith}
-use borrow.Author.Rules.{rules}
 use Rattle.trewizlow.proofs.Laws.{fields_read, fields_refused}
 use Rattle.trewizlow.proofs.trewizlow_read.Goals as goal
 

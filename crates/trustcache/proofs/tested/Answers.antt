@@ -11,7 +11,6 @@ use Rattle.trustcache.specs.Rows.{form_rows, entry_of, lookup_rows}
 use Rattle.trustcache.specs.Launch.{launch_rows}
 use Rattle.trustcache.specs.Table.{cache_rows, cache_answer}
 use Rattle.refusals.proofs.Joined.{stops_at, stops_alone, passed_at, goes_on}
-use borrow.Author.Rules.{rules}
 use Rattle.trustcache.proofs.tested.Goals as goal
 
 -- no row gives 0

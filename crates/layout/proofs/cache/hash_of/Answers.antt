@@ -6,7 +6,6 @@ use native.Mathlib.Nat.{le_refl}
 use native.Mathlib.Omega.{arith}
 use lib.ListN.{length, take, drop, drop_of_length-le}
 use Rattle.layout.specs.TrustCache.{cache_head, entry_size, cdhash_length, hash_at}
-use borrow.Author.Rules.{rules}
 use Rattle.layout.proofs.cache.hash_of.Goals as goal
 
 none : (c : List ℕ) (i : ℕ) → length c ≤ cache_head + entry_size * i → take cdhash_length (drop (length c) c) ≡ hash_at c i

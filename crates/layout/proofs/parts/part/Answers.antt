@@ -7,7 +7,6 @@ use lib.Seq.{take_all, take-nil}
 use Prim.Native.Nat.{ℕ, ◌+◌, ◌-◌, ◌≤◌}
 use native.Mathlib.Omega.{arith}
 use lib.ListN.{length, take, drop}
-use borrow.Author.Rules.{rules}
 use Rattle.layout.proofs.parts.part.Goals as goal
 
 none : (d : List ℕ) (start size : ℕ) → length d ≤ start → take (length d - length d) (drop (length d) d) ≡ take size (drop start d)

@@ -1,8 +1,5 @@
-use borrow.Author.Rules.{rules}
 use native.Mathlib.Omega.{arith}
-use Prim.Native.Nat.{◌-◌, ◌≤◌}
-use Rattle.layout.specs.TrustCache.{cdhash_length}
-use Rattle.trustcache.proofs.Order.{SameTo, compare_below, compare_above, compare_none, compare_more, compare_equal}
+use Rattle.trustcache.proofs.Order.{compare_below, compare_above, compare_none, compare_more, compare_equal}
 use Rattle.trustcache.proofs.entries.compare.Goals as goal
 
 pub loop-i-init : goal.loop-i-init

@@ -1,9 +1,7 @@
 -- The first i bytes are the same; the first that differs decides.
-use borrow.Author.Rules.{rules}
-use native.Mathlib.Omega.{arith}
 use Prim.Native.Nat.{◌-◌, ◌≤◌}
 use Rattle.layout.specs.TrustCache.{cdhash_length}
-use Rattle.trustcache.proofs.Order.{SameTo, compare_below, compare_above, compare_none, compare_more, compare_equal}
+use Rattle.trustcache.proofs.Order.{SameTo}
 use Rattle.trustcache.proofs.entries.compare.Given as goal
 
 abbrev pub invariant-loop-i : goal.invariant-loop-i

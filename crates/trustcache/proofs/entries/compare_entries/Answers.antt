@@ -1,8 +1,5 @@
-use borrow.Author.Rules.{rules}
 use native.Mathlib.Omega.{arith}
-use Prim.Native.Nat.{◌-◌, ◌*◌, ◌≤◌}
-use Rattle.layout.specs.TrustCache.{hash_at}
-use Rattle.trustcache.proofs.Order.{SameTo, compare_none, compare_equal}
+use Rattle.trustcache.proofs.Order.{compare_none, compare_equal}
 use Rattle.trustcache.proofs.Numbers.{numbers_below, numbers_above, numbers_more}
 use Rattle.trustcache.proofs.entries.compare_entries.Goals as goal
 
@@ -23,9 +20,9 @@ loop-k-smaller c = omega arith
 
 pub loop-k-preserved : goal.loop-k-preserved
 loop-k-preserved c = (
-      omega arith,
-      numbers_more c.args.c.now (λ m. (c.shared_slice_known-1.given m).fits) _ _ _ _ _ c.loop-k.invariant.1 (omega arith) c.number_at-a.ensures c.number_at-b.ensures (omega arith),
-    )
+  omega arith,
+  numbers_more c.args.c.now (λ m. (c.shared_slice_known-1.given m).fits) _ _ _ _ _ c.loop-k.invariant.1 (omega arith) c.number_at-a.ensures c.number_at-b.ensures (omega arith),
+)
 
 pub returns : goal.returns
 returns c = compare_equal _ _ _ (omega arith) c.loop-k.invariant.1

@@ -1,7 +1,6 @@
 -- Whole entries are compared in place; of others `compare` says of the two hashes that it is lent what it says of the entries.
 -- Assumes nothing.
 use Rattle.trustcache.proofs.Order.{compared}
-use borrow.Author.Rules.{rules}
 use Rattle.trustcache.proofs.entries.compare_to_previous.Goals as goal
 
 pub returns : goal.returns

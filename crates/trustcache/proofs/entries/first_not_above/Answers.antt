@@ -1,10 +1,5 @@
-use borrow.Author.Rules.{rules}
 use native.Mathlib.Omega.{arith}
-use Prim.Native.Nat.{◌-◌, ◌≤◌}
-use mathlib.Core.Path.{◌≡◌}
-use Rattle.refusals.specs.Refusals.{lowest}
 use Rattle.refusals.proofs.Positions.{lowest_none, lowest_more, lowest_stop, lowest_end}
-use Rattle.trustcache.specs.Rows.{not_above}
 use Rattle.trustcache.proofs.entries.first_not_above.Goals as goal
 
 pub loop-i-init : goal.loop-i-init

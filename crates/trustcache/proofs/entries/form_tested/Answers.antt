@@ -4,7 +4,6 @@ use mathlib.Core.Path.{ap, ◌∙◌}
 use Rattle.refusals.specs.Refusals.{lowest, accepted}
 use Rattle.refusals.proofs.Exact.{decides, passes}
 use Rattle.trustcache.specs.Rows.{not_above, form_rows}
-use borrow.Author.Rules.{rules}
 use Rattle.trustcache.proofs.entries.form_tested.Goals as goal
 
 pub returns-then-c-lt-HEAD : goal.returns-then-c-lt-HEAD

@@ -1,7 +1,6 @@
 -- The first entry has none before it; of any other the comparison decides.
 use native.Mathlib.Omega.{arith}
 use Rattle.trustcache.proofs.Order.{ordered, first_is_above, is_above, is_not_above}
-use borrow.Author.Rules.{rules}
 use Rattle.trustcache.proofs.entries.not_above.Goals as goal
 
 pub returns-then-i-eq0 : goal.returns-then-i-eq0

@@ -4,7 +4,6 @@ use mathlib.Core.Path.{refl}
 use Rattle.refusals.specs.Refusals.{accepted}
 use Rattle.refusals.proofs.Exact.{decides, passes}
 use Rattle.trustcache.specs.Launch.{launch_rows, self_fails, parent_fails}
-use borrow.Author.Rules.{rules}
 use Rattle.trustcache.proofs.launch.launch_tested.Goals as goal
 
 pub returns-then-category-ne-CONSTRAINED : goal.returns-then-category-ne-CONSTRAINED

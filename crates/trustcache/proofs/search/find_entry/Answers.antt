@@ -1,7 +1,5 @@
-use borrow.Author.Rules.{rules}
 use native.Mathlib.Omega.{arith}
-use Prim.Native.Nat.{◌-◌}
-use Rattle.trustcache.proofs.Lookup.{Searching, search_all, search_below, search_above, search_found, search_none}
+use Rattle.trustcache.proofs.Lookup.{search_all, search_below, search_above, search_found, search_none}
 use Rattle.trustcache.proofs.search.find_entry.Goals as goal
 
 pub loop-low-init : goal.loop-low-init

@@ -1,8 +1,6 @@
 -- The entry that has the hash, if there is one, is among those that are left, and each comparison leaves fewer of them.
-use borrow.Author.Rules.{rules}
-use native.Mathlib.Omega.{arith}
 use Prim.Native.Nat.{◌-◌}
-use Rattle.trustcache.proofs.Lookup.{Searching, search_all, search_below, search_above, search_found, search_none}
+use Rattle.trustcache.proofs.Lookup.{Searching}
 use Rattle.trustcache.proofs.search.find_entry.Given as goal
 
 abbrev pub invariant-loop-low : goal.invariant-loop-low

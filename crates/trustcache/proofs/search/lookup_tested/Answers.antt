@@ -6,7 +6,6 @@ use Rattle.layout.specs.TrustCache.{hash_type_at, category_at}
 use Rattle.refusals.specs.Refusals.{refuse}
 use Rattle.refusals.proofs.Exact.{decides, passes}
 use Rattle.trustcache.specs.Rows.{entry_of, lookup_rows}
-use borrow.Author.Rules.{rules}
 use Rattle.trustcache.proofs.search.lookup_tested.Goals as goal
 
 pub returns-then-found-head : goal.returns-then-found-head

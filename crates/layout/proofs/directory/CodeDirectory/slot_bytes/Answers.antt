@@ -1,7 +1,6 @@
 -- The product of the width that is found.
 use mathlib.Core.Path.{ap}
 use Prim.Native.Nat.{ℕ, ◌*◌}
-use borrow.Author.Rules.{rules}
 use Rattle.layout.proofs.directory.CodeDirectory.slot_bytes.Goals as goal
 
 pub overflow_mul-result : goal.overflow_mul-result
