@@ -1,4 +1,4 @@
-// Shared by the build scripts: where the proved archives are. `rt staticlib NAME` writes
+// Shared by the build scripts: where the proved archives are. `tools/staticlib NAME` writes
 // libNAME.a to target/staticlib at the repository's top; the environment variable
 // TREWIZLOW_STATICLIB_DIR names another directory.
 
@@ -20,7 +20,7 @@ pub fn directory(archive: &str) -> PathBuf {
 /// What to do where an archive is missing.
 pub fn missing(archive: &str, directory: &std::path::Path, library: &str) -> String {
     format!(
-        "{archive} is not in {}: run `rt staticlib {library}` at the repository's top (it \
+        "{archive} is not in {}: run `tools/staticlib {library}` at the repository's top (it \
          proves the library first, which takes minutes), or name its directory in {VARIABLE}",
         directory.display()
     )

@@ -1,7 +1,7 @@
 /*
  * Trewizlow: may this signed Mach-O image run?
  *
- * Link target/staticlib/libtrewizlow.a, which `rt staticlib trewizlow` proves and writes.
+ * Link target/staticlib/libtrewizlow.a, which `tools/staticlib trewizlow` proves and writes.
  * The library keeps no state, allocates nothing and calls nothing back; calls on different
  * threads are independent of each other.
  *
@@ -40,7 +40,7 @@
  * Values. A bool that is lent is 0 or 1; with any other value in its byte the call is
  * undefined. Padding bytes of a struct are unspecified: compare fields, not structs.
  *
- * Targets. The archive is for x86-64 Linux, the only target that the kit compiles for. The
+ * Targets. The archive is for Linux on any x86-64 processor; it is made for no other. The
  * tests compile this file there as C99, C11, C17, C++11, C++17 and C++20, with `cc` and `c++`
  * and, where it is installed, with clang; it was tried with gcc 12 and clang 14.
  * From C11 and C++11 on it does not compile where a struct is laid out otherwise.

@@ -1,4 +1,4 @@
-// The digest of a slice, exported for the benchmark under host/: `rt staticlib digest_c`.
+// The digest of a slice, exported for the benchmark under host/: `tools/staticlib digest_c`.
 #![tactic(auto)]
 
 ghost use Rattle.std.specs.Prelude.{◌≡◌, ◌++◌, ◌-◌, replicate};

@@ -1,6 +1,6 @@
-//! bin/trewizlow, .ci/run and the makers under tools in a copied tree, with stubs in the place
-//! of `rt` and `cargo`, so that nothing is proved. A CDPATH that leads elsewhere is set
-//! throughout.
+//! bin/trewizlow, .ci/run, tools/staticlib and the makers beside it in a copied tree, with stubs
+//! in the place of `rt` and `cargo`, so that nothing is proved. A CDPATH that leads elsewhere is
+//! set throughout.
 
 mod scratch;
 
@@ -18,10 +18,14 @@ const TREE: &str = "a tree";
 const TOOL: &str = "a tree/host/target/release/trewizlow";
 const ARCHIVE: &str = "a tree/target/staticlib/libtrewizlow.a";
 
-/// Writes its call and makes the archive.
+/// What is copied from the repository.
+const COMMANDS: [&str; 5] =
+    ["bin/trewizlow", ".ci/run", "tools/make-admit", "tools/make-corpora", "tools/staticlib"];
+
+/// Writes its call and makes the archive that tools/staticlib copies.
 const RT: &str = r#"#!/bin/sh
 echo "rt $* in $(pwd)" >>"$CALLS"
-mkdir -p target/staticlib && : >target/staticlib/libtrewizlow.a
+mkdir -p out && : >out/libtrewizlow_c.a
 "#;
 
 /// Writes its call. What it builds is a tool that prints its arguments.
@@ -59,7 +63,8 @@ fn modified(path: &Path, seconds_ago: u64) {
 /// The tree, the stubs, and a directory that a search by CDPATH would find.
 fn tree(name: &str) -> Scratch {
     let scratch = Scratch::new(name);
-    for name in ["bin/trewizlow", ".ci/run", "tools/make-admit", "tools/make-corpora"] {
+    create_dir_all(scratch.0.join(TREE).join("crates/trewizlow_c")).unwrap();
+    for name in COMMANDS {
         let path = scratch.0.join(TREE).join(name);
         create_dir_all(path.parent().unwrap()).unwrap();
         copy(Path::new(TOP).join(name), &path).unwrap();
@@ -100,8 +105,13 @@ fn cargo_build(scratch: &Scratch) -> String {
     format!("cargo build {} -p trewizlow", manifest(scratch))
 }
 
+/// What tools/staticlib calls.
+fn rt_lib(scratch: &Scratch, krate: &str) -> String {
+    format!("rt lib --cpu=x86-64 in {}/crates/{krate}", scratch.path(TREE))
+}
+
 fn all_calls(scratch: &Scratch) -> Vec<String> {
-    vec![format!("rt staticlib trewizlow in {}", scratch.path(TREE)), cargo_build(scratch)]
+    vec![rt_lib(scratch, "trewizlow_c"), cargo_build(scratch)]
 }
 
 /// It proves and builds on first use alone, and hands the arguments on.
@@ -181,6 +191,36 @@ fn rebuild_with_arguments() {
     let scratch = tree("rebuild");
     let (status, out, _) = shell(&scratch, "bin/trewizlow --rebuild check");
     assert_eq!((status, out.as_str()), (2, ""));
+    assert_eq!(calls(&scratch), [""; 0]);
+}
+
+/// Each static library is proved in its crate and its archive copied. Where that fails, what was
+/// copied before stays.
+#[test]
+fn static_libraries() {
+    let scratch = tree("static");
+    for (name, krate) in [("trewizlow", "trewizlow_c"), ("digest_c", "digest_c")] {
+        let at_top = |path: &str| scratch.0.join(TREE).join(path);
+        create_dir_all(at_top("crates").join(krate)).unwrap();
+        let archive = at_top(&format!("target/staticlib/lib{name}.a"));
+        let stub = format!("{RT}echo {name} >out/lib{krate}.a\n[ ! -e ../../fails ]\n");
+        script(&scratch.0.join("stubs/rt"), &stub);
+        let command = format!("tools/staticlib {name}");
+        assert_eq!(shell(&scratch, &command), (0, "".into(), "".into()));
+        assert_eq!(fs::read_to_string(&archive).unwrap(), format!("{name}\n"));
+        fs::write(&archive, "before").unwrap();
+        fs::write(at_top("fails"), "").unwrap();
+        let said = format!("tools/staticlib: rt lib failed in crates/{krate}\n");
+        assert_eq!(shell(&scratch, &command), (1, "".into(), said));
+        assert_eq!(fs::read_to_string(&archive).unwrap(), "before");
+        fs::remove_file(at_top("fails")).unwrap();
+        assert_eq!(calls(&scratch), [rt_lib(&scratch, krate), rt_lib(&scratch, krate)]);
+    }
+    for words in ["", "sha", "trewizlow digest_c"] {
+        let (status, out, err) = shell(&scratch, &format!("tools/staticlib {words}"));
+        assert_eq!((status, out.as_str()), (2, ""), "{words}");
+        assert_eq!(err, "tools/staticlib: usage: tools/staticlib trewizlow|digest_c\n");
+    }
     assert_eq!(calls(&scratch), [""; 0]);
 }
 

@@ -1,4 +1,4 @@
-//! The proved hash, from the archive that `rt staticlib digest_c` writes.
+//! The proved hash, from the archive that `tools/staticlib digest_c` writes.
 
 /// The most bytes that a digest has.
 pub const MOST: usize = 48;
