@@ -1,0 +1,2 @@
+-- What the exports are held to.
+pub mod Contracts
