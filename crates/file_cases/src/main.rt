@@ -1,4 +1,4 @@
-// Runs the corpora that its arguments name. They are made by tools/make-corpora, and so is what it must print.
+// Runs the corpus of whole Mach-O files, with what it must print, which the corpus maker of docs/unfinished-host.patch made.
 #![tactic(auto)]
 
 use std::io;
