@@ -1,4 +1,5 @@
-// Runs the corpus of whole Mach-O files, with what it must print, which the corpus maker of docs/unfinished-host.patch made.
+// Runs the corpus of whole Mach-O files, which the corpus maker of docs/unfinished-host.patch made, behind that of checks, whose last fields
+// it goes on from.
 #![tactic(auto)]
 
 use std::io;
