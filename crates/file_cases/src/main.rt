@@ -1,5 +1,5 @@
-// Runs the corpus of whole Mach-O files, which the corpus maker of docs/unfinished-host.patch made, behind that of checks, whose last fields
-// it goes on from.
+// Runs the corpora of cases, and behind them, since it goes on from their last fields, that of whole Mach-O files, which the corpus maker of
+// docs/unfinished-host.patch made with what must be printed.
 #![tactic(auto)]
 
 use std::io;
