@@ -26,7 +26,8 @@ use Rattle.admission.specs.Check.{image_rows, later_rows, count_rows, check_rows
 use Rattle.macho.specs.Rows.{command_rows, span_rows, walk_rows, signature_of, image_of}
 use Rattle.admission.specs.File.{LentFile, apart, start_rows, file_rows, file_table, file_answer, file_marks, file_of}
 use Rattle.admission.specs.Recheck.{Call, recheck_of, input_rows, call_rows, remarked, call_answer, call_marks, CallOutcome, call_of}
-use Rattle.admission.specs.Demand1.{check_numbers, file_numbers, recheck_numbers, Demand1}
+use Rattle.admission.specs.Demand1.{check_numbers, recheck_numbers, Demand1}
+use Rattle.admission.specs.FileDemands.{file_numbers, FileDemand1}
 use Rattle.refusals.proofs.Numbers.{all_in, answer_in}
 
 -- THE NUMBERS: all rows of a call have numbers of its list, and no test before the pages has the number 0. Both compute
@@ -112,16 +113,22 @@ module _ (s : List ℕ) (c : Call) (marks : List ℕ) where
   call_stays = leaves (call_rows s c marks) (call_numbers s c marks (remarked s c marks)).1 marks (remarked s c marks) 0
 
 pub demand1 : Demand1
-unfolding check_of file_of call_of
+unfolding check_of call_of
 demand1 =
     record {
       check_number = λ x marks v after e. rw (ap (λ (o : CheckOutcome). o.verdict.number) e) (check_in x marks);
       check_leaves = λ x marks v after e.
           rw (ap (λ (o : CheckOutcome). o.verdict.number) e, ap (λ (o : CheckOutcome). o.marks) e) (check_stays x marks);
-      file_number = λ x marks v after e. rw (ap (λ (o : CheckOutcome). o.verdict.number) e) (file_in x marks);
-      file_leaves = λ x marks v after e.
-          rw (ap (λ (o : CheckOutcome). o.verdict.number) e, ap (λ (o : CheckOutcome). o.marks) e) (file_stays x marks);
       recheck_number = λ s c marks a after e. rw (ap (λ (o : CallOutcome). o.answer.number) e) (call_in s c marks);
       recheck_leaves = λ s c marks a after e.
           rw (ap (λ (o : CallOutcome). o.answer.number) e, ap (λ (o : CallOutcome). o.marks) e) (call_stays s c marks);
+    }
+
+pub file_demand1 : FileDemand1
+unfolding file_of
+file_demand1 =
+    record {
+      file_number = λ x marks v after e. rw (ap (λ (o : CheckOutcome). o.verdict.number) e) (file_in x marks);
+      file_leaves = λ x marks v after e.
+          rw (ap (λ (o : CheckOutcome). o.verdict.number) e, ap (λ (o : CheckOutcome). o.marks) e) (file_stays x marks);
     }

@@ -38,7 +38,8 @@ use Rattle.admission.specs.Check.{image_rows, later_rows, count_rows, check_rows
 use Rattle.admission.specs.Recheck.{Call, recheck_of, input_rows, call_rows, remarked, call_answer, call_marks, CallOutcome, call_of}
 use Rattle.admission.specs.Demand3.{answer_of}
 use Rattle.admission.specs.File.{LentFile, apart, start_rows, file_rows, file_table, file_answer, file_of, FileChecked}
-use Rattle.admission.specs.Demand2.{Check2, File2, LargeApart, Recheck2, EntryHash, Demand2}
+use Rattle.admission.specs.Demand2.{Check2, Recheck2, EntryHash, Demand2}
+use Rattle.admission.specs.FileDemands.{File2, LargeApart, FileDemand2}
 use Rattle.macho.specs.Rows.{walk_rows, signature_position, signature_start, signature_of}
 use Rattle.macho.proofs.Walked.{walked, walked_exactly}
 use Rattle.macho.proofs.Plainly.{walk_plainly}
@@ -195,9 +196,6 @@ demand2 =
           record {
             over_positions = over_plainly;
             several_numbers = among_plainly;
-            load_commands = walk_plainly;
-            walked = walked_exactly;
-            file_parts = parts_plainly;
             page_size_known = page_bytes_power;
             agrees_exactly = agrees_equal;
             hash_kinds = kinds_plainly;
@@ -208,8 +206,14 @@ demand2 =
             parent_constraint = parent_plainly;
           };
       check = λ x marks v after e. subst (λ (o : CheckOutcome). Check2 x marks o.verdict o.marks) (sym e) (check2 x marks);
+      recheck = λ s c marks a after e. subst (λ (o : CallOutcome). Recheck2 s c marks o.answer o.marks) (sym e) (recheck2 s c marks);
+    }
+
+pub file_demand2 : FileDemand2
+file_demand2 =
+    record {
+      plainly = record { load_commands = walk_plainly; walked = walked_exactly; file_parts = parts_plainly };
       file = file2;
       as_apart = file_is_check;
       large_apart = large_apart;
-      recheck = λ s c marks a after e. subst (λ (o : CallOutcome). Recheck2 s c marks o.answer o.marks) (sym e) (recheck2 s c marks);
     }

@@ -22,7 +22,8 @@ use Rattle.macho.proofs.Same.{Alike, walked_same, start_same, end_same}
 use Rattle.admission.specs.Input.{Lent, with_image, limit_of}
 use Rattle.admission.specs.Check.{CheckOutcome, check_of}
 use Rattle.admission.specs.File.{LentFile, with_file, apart, file_of}
-use Rattle.admission.specs.Demand3.{Event, change, call, image_after, Faithful, placeless, answer_of, Apart, file_after, SameRange, Files, Behind, BehindCommands}
+use Rattle.admission.specs.Demand3.{Event, change, call, image_after, Faithful, placeless, answer_of}
+use Rattle.admission.specs.FileDemands.{Apart, file_after, SameRange, Files, Behind, BehindCommands}
 use Rattle.admission.proofs.Files.{file_is_check, file_passes}
 use Rattle.admission.proofs.Images.{image_kept, images}
 

@@ -6,20 +6,12 @@ use Rattle.refusals.specs.Refusals.{OneOf}
 use Rattle.admission.specs.declared.Verdict.{Verdict}
 use Rattle.admission.specs.Input.{Lent}
 use Rattle.admission.specs.Check.{Checked}
-use Rattle.admission.specs.File.{LentFile, FileChecked}
 use Rattle.admission.specs.Recheck.{Call, Rechecked}
 
 -- what a whole check refuses with
 abbrev pub check_numbers : List ℕ
 check_numbers =
     1 ∷ 2 ∷ 3 ∷ 4 ∷ 5 ∷ 6 ∷ 7 ∷ 8 ∷ 9 ∷ 10 ∷ 11 ∷ 12 ∷ 13 ∷ 14 ∷ 46 ∷ 15 ∷ 35 ∷ 16 ∷ 17 ∷ 18 ∷ 19 ∷ 20
-    ∷ 21 ∷ 22 ∷ 23 ∷ 24 ∷ 25 ∷ 26 ∷ 27 ∷ 28 ∷ 29 ∷ 30 ∷ 31 ∷ []
-
--- what a whole check of a file refuses with: 19 is not among them
-abbrev pub file_numbers : List ℕ
-file_numbers =
-    36 ∷ 37 ∷ 38 ∷ 39 ∷ 40
-    ∷ 1 ∷ 2 ∷ 3 ∷ 4 ∷ 5 ∷ 6 ∷ 7 ∷ 8 ∷ 9 ∷ 10 ∷ 11 ∷ 12 ∷ 13 ∷ 14 ∷ 46 ∷ 15 ∷ 35 ∷ 16 ∷ 17 ∷ 18 ∷ 41 ∷ 20
     ∷ 21 ∷ 22 ∷ 23 ∷ 24 ∷ 25 ∷ 26 ∷ 27 ∷ 28 ∷ 29 ∷ 30 ∷ 31 ∷ []
 
 -- what a recheck refuses with
@@ -31,9 +23,6 @@ recheck_numbers =
 pub record Demand1 : Type 0 where
   pub check_number : (x : Lent) (marks : List ℕ) (v : Verdict) (after : List ℕ) → Checked x marks v after → OneOf check_numbers v.number
   pub check_leaves : (x : Lent) (marks : List ℕ) (v : Verdict) (after : List ℕ) → Checked x marks v after
-      → (v.number ≡ 0 → ⊥) → (v.number ≡ 31 → ⊥) → after ≡ marks
-  pub file_number : (x : LentFile) (marks : List ℕ) (v : Verdict) (after : List ℕ) → FileChecked x marks v after → OneOf file_numbers v.number
-  pub file_leaves : (x : LentFile) (marks : List ℕ) (v : Verdict) (after : List ℕ) → FileChecked x marks v after
       → (v.number ≡ 0 → ⊥) → (v.number ≡ 31 → ⊥) → after ≡ marks
   pub recheck_number : (s : List ℕ) (c : Call) (marks : List ℕ) (a : Answer) (after : List ℕ) → Rechecked s c marks a after
       → OneOf recheck_numbers a.number

@@ -1,5 +1,5 @@
 -- Demand 2: an image is accepted exactly when every rule holds, and each refusal is given exactly when its own condition is the first to
--- hold. Of an image lent apart from its signature, of a file that has both, and of a recheck.
+-- hold.
 use Rattle.std.specs.Prelude.{ℕ, ◌+◌, ◌*◌, ◌<◌, ◌≤◌, true, false, cond, List, ◌++◌, ◌⊎◌, ◌↔◌, ◌≡◌, length, get_or}
 use Rattle.refusals.specs.declared.Answer.{Answer}
 use Rattle.refusals.specs.Refusals.{Says, Decides, Passes, refuse, OverPlainly, AmongPlainly}
@@ -13,19 +13,12 @@ use Rattle.marks.specs.Marks.{slot_at, bad_rows, agrees, AgreesExactly}
 use Rattle.trustcache.specs.Order.{OrderPlainly}
 use Rattle.trustcache.specs.Rows.{has_hash}
 use Rattle.trustcache.specs.Launch.{SelfPlainly, ParentPlainly}
-use Rattle.endian.specs.Numbers.{AllBytes}
-use Rattle.directory.specs.Rows.{signature_rows}
-use Rattle.macho.specs.Rows.{walk_rows, signature_position, signature_start, signature_of, image_of}
-use Rattle.layout.specs.MachO.{most_dataoff}
-use Rattle.macho.specs.Walked.{WalkedExactly, WalkPlainly, PartsPlainly}
 use Rattle.admission.specs.declared.Verdict.{Verdict}
-use Rattle.admission.specs.Input.{Lent, longest, slots_by, page_bytes_of, limit_of, slots_of}
-use Rattle.admission.specs.Check.{Checked, check_table, check_of, verdict_of}
+use Rattle.admission.specs.Input.{Lent, slots_by, page_bytes_of, limit_of, slots_of}
+use Rattle.admission.specs.Check.{Checked, check_table, verdict_of}
 use Rattle.admission.specs.Recheck.{Call, Rechecked, call_rows, remarked}
 use Rattle.admission.specs.Meets.{met_by, lent_page}
 use Rattle.admission.specs.Admissible.{Admissible}
-use Rattle.admission.specs.File.{LentFile, apart, file_table, file_of, FileChecked}
-use Rattle.admission.specs.AdmissibleFile.{AdmissibleFile}
 
 -- a whole check
 pub record Check2 (x : Lent) (marks : List ℕ) (v : Verdict) (after : List ℕ) : Type 0 where
@@ -40,36 +33,6 @@ pub record Check2 (x : Lent) (marks : List ℕ) (v : Verdict) (after : List ℕ)
   pub marks_written : (v.number ≡ 0) ⊎ (v.number ≡ 31) → (i : ℕ) → i < page_count (page_bytes_of x.signature) (limit_of x.signature)
       → get_or after i 0
       ≡ cond (agrees (slots_of x.signature) i (page_of (page_bytes_of x.signature) (limit_of x.signature) i x.image)) 0 1
-
--- a whole check of a file
-pub record File2 (x : LentFile) (marks : List ℕ) (v : Verdict) (after : List ℕ) : Type 0 where
-  -- accepted exactly when the file may run
-  pub accepts : (v.number ≡ 0) ↔ AdmissibleFile x (length marks)
-  pub entry : (may : AdmissibleFile x (length marks)) → v.place ≡ may.parts.entry
-  -- refused with n at p exactly when row n of the table holds with place p and no row before it holds
-  pub refuses : (n p : ℕ) → (n ≡ 0 → ⊥) → (v ≡ verdict_of (refuse n p)) ↔ Decides (file_table x (length marks)) n p
-  -- where it answers 0 or 31 there is one mark a page, and every mark is written: 0 exactly when the page agrees with its slot, else 1
-  pub marks_long : (v.number ≡ 0) ⊎ (v.number ≡ 31) → length after ≡ page_count (page_bytes_of (signature_of x.file)) (limit_of (signature_of x.file))
-  pub marks_written : (v.number ≡ 0) ⊎ (v.number ≡ 31) → (i : ℕ)
-      → i < page_count (page_bytes_of (signature_of x.file)) (limit_of (signature_of x.file))
-      → get_or after i 0
-      ≡ cond
-      (agrees (slots_of (signature_of x.file)) i
-      (page_of (page_bytes_of (signature_of x.file)) (limit_of (signature_of x.file)) i (image_of x.file)))
-      0 1
-
--- where 36 to 40 pass, and a signature that passes 1 to 18 starts at the code limit, it is the whole check of image and signature lent apart,
--- whatever that answers; so 19, which has no row here, cannot be lost
-abbrev pub AsApart : Type 0
-AsApart = (x : LentFile) (marks : List ℕ) → Passes (walk_rows x.file)
-    → (Passes (signature_rows (longest x.sides) (signature_of x.file)) → signature_start x.file ≡ limit_of (signature_of x.file))
-    → file_of x marks ≡ check_of (apart x) marks
-
--- the offset of a command has 32 bits, so no code limit above what it can state passes 41: such an image is lent apart
-abbrev pub LargeApart : Type 0
-LargeApart = (x : LentFile) (marks : List ℕ) (v : Verdict) (after : List ℕ) → FileChecked x marks v after → AllBytes x.file
-    → Passes (walk_rows x.file) → Passes (signature_rows (longest x.sides) (signature_of x.file))
-    → most_dataoff < limit_of (signature_of x.file) → v ≡ verdict_of (refuse 41 (signature_position x.file))
 
 -- a recheck
 pub record Recheck2 (s : List ℕ) (c : Call) (marks : List ℕ) (a : Answer) (after : List ℕ) : Type 0 where
@@ -99,10 +62,6 @@ pub record Plainly : Type 0 where
   -- a test over positions holds with the lowest position at which its condition holds, and one with several numbers with the lowest fault
   pub over_positions : OverPlainly
   pub several_numbers : AmongPlainly
-  -- the rows of the load commands; that they pass exactly in a file whose commands are in order and name one signature; and its parts
-  pub load_commands : WalkPlainly
-  pub walked : WalkedExactly
-  pub file_parts : PartsPlainly
   -- P is 2 to the page_size field
   pub page_size_known : PagePower
   -- a page agrees with its slot exactly when the slot holds its digest by the slots' kind, and what that is by each kind
@@ -119,7 +78,4 @@ pub record Plainly : Type 0 where
 pub record Demand2 : Type 0 where
   pub plainly : Plainly
   pub check : (x : Lent) (marks : List ℕ) (v : Verdict) (after : List ℕ) → Checked x marks v after → Check2 x marks v after
-  pub file : (x : LentFile) (marks : List ℕ) (v : Verdict) (after : List ℕ) → FileChecked x marks v after → File2 x marks v after
-  pub as_apart : AsApart
-  pub large_apart : LargeApart
   pub recheck : (s : List ℕ) (c : Call) (marks : List ℕ) (a : Answer) (after : List ℕ) → Rechecked s c marks a after → Recheck2 s c marks a after

@@ -1,8 +1,8 @@
 -- Demand 3: chains of rechecks. Of the whole list of calls, beside a book that says which image they have examined; and of the whole list of
--- calls and changes of the image, page by page and of the image as a whole; and what of it is said of a file.
+-- calls and changes of the image, page by page and of the image as a whole.
 use Rattle.std.specs.Prelude.{ℕ, ◌+◌, ◌*◌, ◌<◌, ◌≤◌, Bool, true, false, cond, ◌&&◌, ◌||◌, List, [], ◌∷◌, ◌++◌, ◌⊎◌, ◌↔◌, ◌≡◌, eqb, length, get_or}
 use Rattle.refusals.specs.declared.Answer.{Answer}
-use Rattle.refusals.specs.Refusals.{refuse, accepted, first, Passes}
+use Rattle.refusals.specs.Refusals.{refuse, accepted, first}
 use Rattle.geometry.specs.Pages.{page_count, page_of, part, met_first, met_stop, splice}
 use Rattle.marks.specs.Marks.{agrees}
 use Rattle.admission.specs.declared.Verdict.{Verdict}
@@ -10,9 +10,6 @@ use Rattle.admission.specs.Input.{Lent, with_image, page_bytes_of, limit_of, slo
 use Rattle.admission.specs.Check.{Checked, check_answer, check_marks}
 use Rattle.admission.specs.Recheck.{Call, recheck_of, input_rows, Rechecked}
 use Rattle.admission.specs.Meets.{meets, met_by, Meets}
-use Rattle.layout.specs.MachO.{mach_head, sizeofcmds}
-use Rattle.macho.specs.Rows.{walk_rows, signature_start, signature_end, signature_of, image_of}
-use Rattle.admission.specs.File.{LentFile, with_file, apart, file_answer, file_marks, FileChecked}
 
 -- THE BOOK
 
@@ -212,53 +209,8 @@ Images = (x : Lent) (marks : List ℕ) (v : Verdict) (after : List ℕ) (events 
     × (latest x.signature (placeless (answer_of v)) (made_in events)
     ≡ placeless (check_answer (with_image x (image_after x.image events)) (length marks))))
 
--- A FILE
-
--- a check of a file that answered 0 or 31 answered and left what a check of its image and signature lent apart does: all that is said above is
--- said of these
-abbrev pub Apart : Type 0
-Apart = (x : LentFile) (marks : List ℕ) (v : Verdict) (after : List ℕ) → FileChecked x marks v after
-    → (v.number ≡ 0) ⊎ (v.number ≡ 31) → Checked (apart x) marks v after
-
--- the file after the changes, made in the file itself: its image comes first
-abbrev pub file_after : LentFile → List Event → List ℕ
-file_after x events = image_after x.file events
-
--- the walk of the file g passes, and finds the signature where that of f does
-pub record SameRange (f g : List ℕ) : Type 0 where
-  pub walks : Passes (walk_rows g)
-  pub start : signature_start g ≡ signature_start f
-  pub end : signature_end g ≡ signature_end f
-
--- only then it is said of the file: where no page was altered after it was last examined, marks and the latest answer are those of a whole
--- check of the new file
-abbrev pub Files : Type 0
-Files = (x : LentFile) (marks : List ℕ) (v : Verdict) (after : List ℕ) (events : List Event)
-    → FileChecked x marks v after → (v.number ≡ 0) ⊎ (v.number ≡ 31) → InTurn (signature_of x.file) after (made_in events)
-    → Faithful (signature_of x.file) (image_of x.file) events
-    → ((i : ℕ) → i < page_count (page_bytes_of (signature_of x.file)) (limit_of (signature_of x.file)) → altered (signature_of x.file) i false events ≡ false)
-    → SameRange x.file (file_after x events)
-    → (last_marks after (made_in events) ≡ file_marks (with_file x (file_after x events)) marks)
-    × (latest (signature_of x.file) (placeless (answer_of v)) (made_in events)
-    ≡ placeless (file_answer (with_file x (file_after x events)) (length marks)))
-
--- every change starts at n or behind it
-unfoldable pub Behind : ℕ → List Event → Type 0
-Behind n [] = Unit {0}
-Behind n (change at new ∷ es) = (n ≤ at) × Behind n es
-Behind n (call m ∷ es) = Behind n es
-
--- the range stays the same in every list whose changes lie behind the stated command area
-abbrev pub BehindCommands : Type 0
-BehindCommands = (x : LentFile) (marks : List ℕ) (v : Verdict) (after : List ℕ) (events : List Event)
-    → FileChecked x marks v after → (v.number ≡ 0) ⊎ (v.number ≡ 31) → Faithful (signature_of x.file) (image_of x.file) events
-    → Behind (mach_head + sizeofcmds x.file) events → SameRange x.file (file_after x events)
-
 pub record Demand3 : Type 0 where
   pub chains : Chains
   pub pages : Pages
   pub images : Images
   pub meets_shared : Meets
-  pub lent_apart : Apart
-  pub files : Files
-  pub behind_commands : BehindCommands

@@ -36,7 +36,7 @@ apart x = record { signature = signature_of x.file; image = image_of x.file; cac
 unfoldable pub start_rows : List ℕ → ℕ → ℕ → List Row
 start_rows d start command = row 41 (start ≢? code_limit d) command ∷ []
 
--- tests 36 to 40, 1 to 18, 41 and 20 to 30. There is no row 19: where 41 passes, the image ends at the code limit (`AsApart` in Demand2.antt)
+-- tests 36 to 40, 1 to 18, 41 and 20 to 30. There is no row 19: where 41 passes, the image ends at the code limit (`AsApart` in FileDemands.antt)
 unfoldable pub file_rows : LentFile → ℕ → List Row
 file_rows x marksLength =
     walk_rows x.file
