@@ -13,11 +13,11 @@ use Rattle.marks.specs.Marks.{bad_rows}
 use Rattle.admission.specs.declared.Verdict.{Verdict}
 use Rattle.admission.specs.Input.{Beside, Lent, beside, longest, marks_of}
 
--- 19: image shorter than code_limit
+-- 19: image shorter than codeLimit
 unfoldable pub image_rows : List ℕ → ℕ → List Row
 image_rows d image_length = row 19 (image_length <? code_limit d) 0 ∷ []
 
--- 20: marks buffer not n_code_slots bytes
+-- 20: marks buffer not nCodeSlots bytes
 unfoldable pub count_rows : List ℕ → ℕ → List Row
 count_rows d marksLength = row 20 (marksLength ≢? n_code_slots d) 0 ∷ []
 

@@ -62,7 +62,7 @@ pub record Plainly : Type 0 where
   -- a test over positions holds with the lowest position at which its condition holds, and one with several numbers with the lowest fault
   pub over_positions : OverPlainly
   pub several_numbers : AmongPlainly
-  -- P is 2 to the page_size field
+  -- P is 2 to the pageSize field
   pub page_size_known : PagePower
   -- a page agrees with its slot exactly when the slot holds its digest by the slots' kind, and what that is by each kind
   pub agrees_exactly : AgreesExactly

@@ -21,7 +21,7 @@ no_facts =
       parent_is_init = false;
     }
 
--- how many marks are lent: n_code_slots where tests 1 to 18 pass
+-- how many marks are lent: nCodeSlots where tests 1 to 18 pass
 unfoldable pub marks_wanted : List ℕ → ℕ
 marks_wanted s = pick ((first (signature_rows 0 s) accepted).number ≡? 0) (n_code_slots (directory s)) 0
 

@@ -1,4 +1,4 @@
--- Hash kinds, by the number that a code directory gives (hash_type): 1 SHA-1, 2 SHA-256, 3 SHA-256 cut to 20 bytes, 4 SHA-384.
+-- Hash kinds, by the number that a code directory gives (hashType): 1 SHA-1, 2 SHA-256, 3 SHA-256 cut to 20 bytes, 4 SHA-384.
 use Rattle.std.specs.Prelude.{ℕ, cond, List, [], ◌≡◌, eqb, take}
 use Rattle.layout.specs.CodeDirectory.{sha1_type, sha256_type, truncated_type, sha384_type, width_of}
 use Rattle.sha.specs.Hash.{Hash, cut_to, digest}

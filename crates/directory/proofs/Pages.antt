@@ -28,17 +28,17 @@ use Rattle.directory.proofs.Slots.{code_slots_length, few_slots}
 -- THE CODE LIMIT
 
 module _ (d : List ℕ) (x : ℕ) (e : x ≡ since limit64_version code_limit64 d) where
-  -- code_limit where there is no code_limit64, or 0
+  -- codeLimit where there is no codeLimit64, or 0
   pub limit_small : (n : ℕ) → x ≡ 0 → n ≡ code_limit32 d → n ≡ code_limit d
   unfolding code_limit
   limit_small n z f = pick_yes (since limit64_version code_limit64 d ≡? 0) (code_limit32 d) (since limit64_version code_limit64 d) n (sym e ∙ z) f
 
-  -- else code_limit64
+  -- else codeLimit64
   pub limit_large : (x ≡ 0 → ⊥) → x ≡ code_limit d
   unfolding code_limit
   limit_large ne = pick_no (since limit64_version code_limit64 d ≡? 0) (code_limit32 d) (since limit64_version code_limit64 d) x (λ z. ne (e ∙ z)) e
 
--- in a list of bytes code_limit is no limit that is too large
+-- in a list of bytes codeLimit is no limit that is too large
 small_limit : (d : List ℕ) → AllBytes d → code_limit32 d ≤ most_code_limit
 unfolding code_limit32
 small_limit d b = omega (arith, big_below d 32 b 4)

@@ -14,11 +14,11 @@ first_version = 0x20001
 abbrev pub last_version : ℕ
 last_version = 0x20600
 
--- the first version that has scatter_offset
+-- the first version that has scatterOffset
 abbrev pub scatter_version : ℕ
 scatter_version = 0x20100
 
--- the first version that has code_limit64
+-- the first version that has codeLimit64
 abbrev pub limit64_version : ℕ
 limit64_version = 0x20300
 
@@ -61,6 +61,6 @@ pub record SincePlainly : Type 0 where
   -- and passes exactly one whose field is at most m if it is of version v or later
   pub within : (v m : ℕ) (field : List ℕ → ℕ) (d : List ℕ) → Says false (m <? since v field d) ↔ (v ≤ version d → field d ≤ m)
 
--- scatter_offset is 0 exactly where the four bytes at 44 are
+-- scatterOffset is 0 exactly where the four bytes at 44 are
 abbrev pub ScatterZero : Type 0
 ScatterZero = (d : List ℕ) → (scatter_offset d ≡ 0) ↔ ((i : ℕ) → i < 4 → get_or d (44 + i) 0 ≡ 0)

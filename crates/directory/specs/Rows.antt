@@ -39,7 +39,7 @@ flags_outside d = bit_or (flags d) allowed_flags ≢? allowed_flags
 unfoldable pub code_slot : List ℕ → ℕ → List ℕ
 code_slot d i = take (slot_width d) (drop (hash_offset d + slot_width d * i) d)
 
--- special slot k, from 1 to n_special_slots; nothing where k is another number
+-- special slot k, from 1 to nSpecialSlots; nothing where k is another number
 unfoldable pub special_slot : List ℕ → ℕ → List ℕ
 special_slot d k = cond (holds (1 ≤? k and k ≤? n_special_slots d)) (take (slot_width d) (drop (hash_offset d - slot_width d * k) d)) []
 
@@ -47,13 +47,13 @@ special_slot d k = cond (holds (1 ≤? k and k ≤? n_special_slots d)) (take (s
 unfoldable pub code_slots : List ℕ → List ℕ
 code_slots d = take (slot_width d * n_code_slots d) (drop (hash_offset d) d)
 
--- the special slots, where there are any, lie from hash_offset - slot_width * n_special_slots up to hash_offset: one of them reaches before the
+-- the special slots, where there are any, lie from hashOffset - slot_width * nSpecialSlots up to hashOffset: one of them reaches before the
 -- head's end or past the directory
 unfoldable pub special_outside : List ℕ → Cond
 special_outside d =
     0 <? n_special_slots d and (hash_offset d <? head_of d + slot_width d * n_special_slots d or length d <? hash_offset d)
 
--- .. and the code slots from hash_offset up to hash_offset + slot_width * n_code_slots
+-- .. and the code slots from hashOffset up to hashOffset + slot_width * nCodeSlots
 unfoldable pub code_outside : List ℕ → Cond
 code_outside d =
     0 <? n_code_slots d and (hash_offset d <? head_of d or length d <? hash_offset d + slot_width d * n_code_slots d)

@@ -19,10 +19,10 @@ use layout::parts::part;
 use refusals::Answer;
 use refusals::answers::answer;
 
-// The first version that has scatter_offset.
+// The first version that has scatterOffset.
 const SCATTER_VERSION: usize = 0x20100;
 
-// The first version that has code_limit64.
+// The first version that has codeLimit64.
 const LIMIT64_VERSION: usize = 0x20300;
 
 const MOST_PAGES: usize = 1048576;
@@ -30,7 +30,7 @@ const MOST_PAGES: usize = 1048576;
 // The highest special slot.
 pub const MOST_SPECIAL_SLOTS: u32 = 11;
 
-// The most bytes of code. code_limit has 32 bits: only code_limit64 can be above.
+// The most bytes of code. codeLimit has 32 bits: only codeLimit64 can be above.
 const MOST_CODE_LIMIT: u64 = 17179869184;
 
 // Tests 1 to 18. `side` is the length of the longest side file that is there, 0 where none is.
@@ -47,7 +47,7 @@ pub fn tested(sig: &[u8], side: usize) -> Answer
     answer(10, 0)
 }
 
-// The code limit: code_limit64 where it is present and not 0, else code_limit.
+// The code limit: codeLimit64 where it is present and not 0, else codeLimit.
 pub fn code_limit(d: &[u8]) -> usize
     ensures { result ≡ code_limit d.now }
 {
@@ -58,7 +58,7 @@ pub fn code_limit(d: &[u8]) -> usize
     limit64 as usize
 }
 
-// Special slot k, counted from 1, which ends where slot k - 1 starts; slot 1 ends at hash_offset. Nothing where the directory has no such slot.
+// Special slot k, counted from 1, which ends where slot k - 1 starts; slot 1 ends at hashOffset. Nothing where the directory has no such slot.
 pub fn special_slot<'a>(d: &'a [u8], k: usize) -> &'a [u8]
     ensures { result.now ≡ special_slot d.now k }
 {
@@ -272,7 +272,7 @@ fn head_of(d: &[u8]) -> usize
     head_size(CodeDirectory::read(d).version)
 }
 
-// code_limit64; 0 in a directory of a version that has none.
+// codeLimit64; 0 in a directory of a version that has none.
 fn limit64_of(d: &[u8]) -> u64
     ensures { result ≡ since limit64_version code_limit64 d.now }
 {
@@ -283,7 +283,7 @@ fn limit64_of(d: &[u8]) -> u64
     head.code_limit64
 }
 
-// scatter_offset; 0 in a directory of a version that has none.
+// scatterOffset; 0 in a directory of a version that has none.
 fn scatter_of(d: &[u8]) -> usize
     ensures { result ≡ since scatter_version scatter_offset d.now }
 {

@@ -3,7 +3,7 @@
 use Rattle.std.specs.Prelude.{ℕ, ◌+◌, ◌-◌, ◌*◌, ◌/◌, ◌^◌, ◌<◌, ◌≤◌, min, ◌≡◌, ◌⊎◌, List, [], ◌∷◌, ◌++◌, length, take, drop}
 use Rattle.refusals.specs.Refusals.{◌<?◌, ◌≡?◌, ◌≢?◌, pick, Row, row}
 
--- P: 2 to the page_size field, or the whole code limit where the field is 0; test 14 refuses every field but 0, 12 and 14
+-- P: 2 to the pageSize field, or the whole code limit where the field is 0; test 14 refuses every field but 0, 12 and 14
 unfoldable pub page_bytes : ℕ → ℕ → ℕ
 page_bytes shift limit = pick (shift ≡? 0) limit (pick (shift ≡? 12) 4096 (pick (shift ≡? 14) 16384 0))
 

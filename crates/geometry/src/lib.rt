@@ -10,12 +10,12 @@ ghost use Rattle.geometry.specs.Pages.{page_bytes, page_count, page_end, met_fir
 
 use refusals::Answer;
 
-// The page sizes that a page_size field of 12 and of 14 stands for.
+// The page sizes that a pageSize field of 12 and of 14 stands for.
 const SMALL: usize = 4096;
 
 const LARGE: usize = 16384;
 
-// P, the bytes of a page, from the directory's page_size field.
+// P, the bytes of a page, from the directory's pageSize field.
 pub fn page_bytes(shift: usize, limit: usize) -> usize
     ensures { result ≡ page_bytes shift limit }
 {

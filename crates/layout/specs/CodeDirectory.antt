@@ -29,7 +29,7 @@ info_slot = 1
 abbrev pub resources_slot : ℕ
 resources_slot = 3
 
--- HASH KINDS, by the number that hash_type holds
+-- HASH KINDS, by the number that hashType holds
 
 -- CS_HASHTYPE_SHA1, CS_HASHTYPE_SHA256, CS_HASHTYPE_SHA256_TRUNCATED, CS_HASHTYPE_SHA384
 abbrev pub sha1_type : ℕ
@@ -81,7 +81,7 @@ n_special_slots d = big 4 d 24
 unfoldable pub n_code_slots : List ℕ → ℕ
 n_code_slots d = big 4 d 28
 
--- code_limit: one of the two fields of which the code limit is chosen
+-- codeLimit: one of the two fields of which the code limit is chosen
 unfoldable pub code_limit32 : List ℕ → ℕ
 code_limit32 d = big 4 d 32
 

@@ -1,5 +1,5 @@
 // The CodeDirectory, a blob of the signature, big-endian: a head whose size follows from the version, the identifier,
-// and the slots, each the hash of one thing: the special slots end at hash_offset, and the code slots start there.
+// and the slots, each the hash of one thing: the special slots end at hashOffset, and the code slots start there.
 ghost use Rattle.std.specs.Prelude.{◌≡◌, ◌*◌, ◌<◌, ◌≤◌, ◌^◌};
 ghost use Rattle.layout.specs.CodeDirectory.{DirectoryRead, width_of};
 
@@ -12,12 +12,12 @@ pub struct CodeDirectory {
     pub ident_offset: usize,
     pub special_slots: usize,
     pub code_slots: usize,
-    // `code_limit` in Apple's header: one of the two fields of which the code limit is chosen.
+    // `codeLimit` in Apple's header: one of the two fields of which the code limit is chosen.
     pub code_limit32: usize,
     pub hash_size: usize,
     pub hash_type: usize,
     pub platform: usize,
-    // The page size is 2 to this, or the whole code limit where this is 0 (`page_size` in Apple's header).
+    // The page size is 2 to this, or the whole code limit where this is 0 (`pageSize` in Apple's header).
     pub page_shift: usize,
     // Fields from version 0x20100 and from 0x20300 on. In an older directory these bytes are something else.
     pub scatter_offset: usize,
@@ -31,7 +31,7 @@ impl CodeDirectory {
     // The slot type of the directory that is checked (CSSLOT_CODEDIRECTORY).
     pub const TYPE: u32 = 0;
 
-    // The hash kinds, by the number that hash_type holds (CS_HASHTYPE_SHA1, .._SHA256, .._SHA256_TRUNCATED, .._SHA384).
+    // The hash kinds, by the number that hashType holds (CS_HASHTYPE_SHA1, .._SHA256, .._SHA256_TRUNCATED, .._SHA384).
     pub const SHA1: usize = 1;
 
     pub const SHA256: usize = 2;
@@ -53,7 +53,7 @@ impl CodeDirectory {
     // RUNTIME and LINKER_SIGNED.
     pub const ALLOWED_FLAGS: usize = 0x33F02;
 
-    // Bytes of the head, which grew with the version: the earliest, with scatter, with team, with code_limit64, with the executable
+    // Bytes of the head, which grew with the version: the earliest, with scatter, with team, with codeLimit64, with the executable
     // segment, with the pre-encryption offset, with linkage (Apple's end_ marks).
     pub const HEAD_EARLIEST: usize = 44;
 

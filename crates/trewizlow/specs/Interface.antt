@@ -1,5 +1,5 @@
--- What the exported functions that read a file or a signature answer, each by its struct's fields in the order of include/trewizlow.h. `f` is
--- the lent file, `s` the lent signature.
+-- What the exported functions that read a file or a signature answer, each by its struct's fields, those of a signature in the order of
+-- include/trewizlow.h. `f` is the lent file, `s` the lent signature.
 use Rattle.std.specs.Prelude.{ℕ, ◌-◌, Bool, cond, List, length, replicate}
 use Rattle.refusals.specs.declared.Answer.{Answer}
 use Rattle.refusals.specs.Refusals.{◌≡?◌, holds, accepted, first}

@@ -52,7 +52,7 @@ pub record FieldsShown (s d : List ℕ) (r : DirectoryFields) : Type 0 where
   pub ident_offset_is : r.ident_offset ≡ big 4 d 20
   pub n_special_slots_is : r.special_slots ≡ big 4 d 24
   pub n_code_slots_is : r.code_slots ≡ big 4 d 28
-  -- the code limit: code_limit64 from version 0x20300 on where it is not 0, and code_limit else
+  -- the code limit: codeLimit64 from version 0x20300 on where it is not 0, and codeLimit else
   pub limit_large : 0x20300 ≤ big 4 d 8 → (big 8 d 56 ≡ 0 → ⊥) → r.code_limit ≡ big 8 d 56
   pub limit_small : (0x20300 ≤ big 4 d 8 → big 8 d 56 ≡ 0) → r.code_limit ≡ big 4 d 32
   pub hash_size_is : r.hash_size ≡ get_or d 36 0

@@ -1,5 +1,5 @@
-// What include/trewizlow.h declares, for C (trewizlow_c exports it) and for other crates: thin functions over the crates that do the work.
-// Each takes any bytes and any numbers.
+// What include/trewizlow.h declares, and trewizlow_file_read and trewizlow_file_check, for C (trewizlow_c exports them) and for other crates:
+// thin functions over the crates that do the work. Each takes any bytes and any numbers.
 #![tactic(auto)]
 
 ghost use Rattle.std.specs.Prelude.{◌≡◌};

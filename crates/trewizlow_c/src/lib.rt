@@ -1,4 +1,5 @@
-// The C interface, include/trewizlow.h: an export for each function of the library trewizlow, with the same clauses.
+// The C interface: an export for each function of the library trewizlow, with the same clauses. include/trewizlow.h declares them, but for
+// trewizlow_file_read and trewizlow_file_check.
 #![tactic(auto)]
 
 ghost use Rattle.std.specs.Prelude.{◌≡◌};

@@ -1,4 +1,4 @@
--- By code_limit64: 0 where the version has none.
+-- By codeLimit64: 0 where the version has none.
 use native.Mathlib.Omega.{arith}
 use Rattle.directory.proofs.Pages.{limit_small, limit_large}
 use Rattle.directory.proofs.code_limit.Goals as goal

@@ -1,4 +1,4 @@
--- Outside 1 to n_special_slots there is no slot. A slot that would start before the directory starts at 0, as a difference stops there.
+-- Outside 1 to nSpecialSlots there is no slot. A slot that would start before the directory starts at 0, as a difference stops there.
 use Prim.Native.Nat.{ℕ, ◌-◌, ◌*◌, ◌<◌}
 use mathlib.Core.Bool.{true, false}
 use mathlib.Core.List.{List, []}
