@@ -11,7 +11,7 @@ use Rattle.admit_run.specs.Small.{file_of, small_line, Said}
 use Rattle.admit_run.specs.Text.{Text}
 use Rattle.admit_run.proofs.answer.Reads as answer-reads
 use Rattle.admit_run.proofs.answer.Kinds as answer-kinds
-use Rattle.admit_run.proofs.line_of.Reads as line_reads_lem
+use Rattle.admit_run.proofs.line_of.Reads as line-reads
 use Rattle.admit_run.proofs.line_of.Kinds as line-kinds
 use Rattle.admit_run.proofs.text.put_line.Reads as text-reads
 use Rattle.admit_run.proofs.text.put_line.Kinds as text-kinds
@@ -19,7 +19,7 @@ use Rattle.admit_run.proofs.text.put_line.Kinds as text-kinds
 -- arguments in order: whether the signature is there, its bytes, the same of the image and of the cache, the marks
 module _ (κs : Lfts 4) (a : ArgsD Rattle.admit_run.specs.contracts.line_of.signature κs) where
   pub line_says : (r : ResD Rattle.admit_run.specs.contracts.line_of.signature κs) (e : AtExit (ended_of 4 line-kinds.ps line-kinds.r) κs)
-      → line_reads_lem.Learnt κs a r e
+      → line-reads.Learnt κs a r e
       → r ≡ small_line (file_of 16384 a.0 a.1.0.now) (file_of 32768 a.1.1.0 a.1.1.1.0.now) (file_of 16384 a.1.1.1.1.0 a.1.1.1.1.1.0.now)
   line_says r e h = h
 
