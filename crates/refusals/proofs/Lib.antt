@@ -8,3 +8,4 @@ pub mod Alike
 pub mod Ranges
 pub mod Plain
 pub mod Numbers
+pub mod Results

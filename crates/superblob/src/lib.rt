@@ -8,14 +8,14 @@
 
 ghost use Rattle.std.specs.Prelude.{◌≡◌, ◌<◌};
 ghost use Rattle.refusals.specs.Refusals.{holds, lowest, first, accepted};
+ghost use Rattle.refusals.specs.Named.{test_answer};
 ghost use Rattle.layout.specs.SuperBlob.{index_end, type_at, offset_at, blob_magic, blob_length, count};
 ghost use Rattle.superblob.specs.Rows.{magic_of, outside, shared, clashing, failing, head_rows, index_rows, rows, position, has, start_of, blob_of, Found, blob};
 
 use layout::directory::CodeDirectory;
 use layout::parts::part;
 use layout::superblob::{Blob, BlobIndex, SuperBlob};
-use refusals::Answer;
-use refusals::answers::answer;
+use refusals::Refusal;
 
 // The longest signature that is read.
 const MOST_SIGNATURE: usize = 67108864;
@@ -27,13 +27,10 @@ const MOST_SIDE: usize = 4194304;
 const MOST_BLOBS: usize = 64;
 
 // Tests 1 to 9. `side` is the length of the longest side file that is there, 0 where none is.
-pub fn tested(sig: &[u8], side: usize) -> Answer
-    ensures { result ≡ first (rows side sig.now) accepted }
+pub fn tested(sig: &[u8], side: usize) -> Result<(), Refusal>
+    ensures { test_answer result ≡ first (rows side sig.now) accepted }
 {
-    let head = head_tested(sig, side);
-    if head.number != 0 {
-        return head;
-    }
+    head_tested(sig, side)?;
     index_tested(sig)
 }
 
@@ -48,7 +45,7 @@ pub struct Span {
 pub fn find_span(sig: &[u8], slot_type: u32) -> Span
     ensures { Found sig.now slot_type result }
 {
-    if tested(sig, 0).number != 0 {
+    if tested(sig, 0).is_err() {
         return Span { start: 0, end: 0 };
     }
     let i = position_of(sig, slot_type as usize);
@@ -95,63 +92,63 @@ pub fn blob_of<'a>(sig: &'a [u8], slot_type: u32) -> &'a [u8]
 }
 
 // Tests 1 to 4: the head.
-fn head_tested(sig: &[u8], side: usize) -> Answer
-    ensures { result ≡ first (head_rows side sig.now) accepted }
+fn head_tested(sig: &[u8], side: usize) -> Result<(), Refusal>
+    ensures { test_answer result ≡ first (head_rows side sig.now) accepted }
 {
     if sig.len() < SuperBlob::HEAD {
-        return answer(1, 0);
+        return Err(Refusal::InputLength);
     }
     if MOST_SIGNATURE < sig.len() {
-        return answer(1, 0);
+        return Err(Refusal::InputLength);
     }
     if MOST_SIDE < side {
-        return answer(1, 0);
+        return Err(Refusal::InputLength);
     }
     let head = SuperBlob::read(sig);
     if head.magic != SuperBlob::MAGIC {
-        return answer(2, 0);
+        return Err(Refusal::SuperBlobMagic);
     }
     if head.count == 0 {
-        return answer(3, 0);
+        return Err(Refusal::BlobCount);
     }
     if MOST_BLOBS < head.count {
-        return answer(3, 0);
+        return Err(Refusal::BlobCount);
     }
     if head.length < index_end(sig) {
-        return answer(4, 0);
+        return Err(Refusal::SuperBlobLength);
     }
     if sig.len() < head.length {
-        return answer(4, 0);
+        return Err(Refusal::SuperBlobLength);
     }
-    answer(0, 0)
+    Ok(())
 }
 
 // Tests 5 to 9: each over all positions of the index before the next.
-fn index_tested(sig: &[u8]) -> Answer
-    ensures { result ≡ first (index_rows sig.now) accepted }
+fn index_tested(sig: &[u8]) -> Result<(), Refusal>
+    ensures { test_answer result ≡ first (index_rows sig.now) accepted }
 {
     let n = SuperBlob::read(sig).count;
     let unknown = first_failing(sig, Test::Known);
     if unknown < n {
-        return answer(5, unknown);
+        return Err(Refusal::UnknownType(unknown));
     }
     let repeated = first_failing(sig, Test::Distinct);
     if repeated < n {
-        return answer(6, repeated);
+        return Err(Refusal::RepeatedType(repeated));
     }
     let outside = first_failing(sig, Test::Inside);
     if outside < n {
-        return answer(7, outside);
+        return Err(Refusal::BlobOutside(outside));
     }
     let wrong = first_failing(sig, Test::Magic);
     if wrong < n {
-        return answer(8, wrong);
+        return Err(Refusal::BlobMagic(wrong));
     }
     let overlapping = first_failing(sig, Test::Apart);
     if overlapping < n {
-        return answer(9, overlapping);
+        return Err(Refusal::BlobsOverlap(overlapping));
     }
-    answer(0, 0)
+    Ok(())
 }
 
 // A test over the positions of the index.

@@ -1,5 +1,4 @@
 -- Each refusal is the first row that holds: the rows before it are the tests passed on the way.
-use mathlib.Core.Path.{◌∙◌}
 use native.Mathlib.Omega.{arith}
 use Rattle.refusals.specs.Refusals.{accepted}
 use Rattle.refusals.proofs.Exact.{decides, passes}
@@ -8,36 +7,36 @@ use Rattle.superblob.proofs.head_tested.Goals as goal
 
 pub returns-then-sig-lt-HEAD : goal.returns-then-sig-lt-HEAD
 unfolding head_rows
-returns-then-sig-lt-HEAD c = c.answer.ensures ∙ decides _ accepted _ _ (omega arith)
+returns-then-sig-lt-HEAD c = decides _ accepted _ _ (omega arith)
 
 pub returns-then-sig-gt-MOST_SIGNATURE : goal.returns-then-sig-gt-MOST_SIGNATURE
 unfolding head_rows
-returns-then-sig-gt-MOST_SIGNATURE c = c.answer-then-sig-gt-MOST_SIGNATURE.ensures ∙ decides _ accepted _ _ (omega arith)
+returns-then-sig-gt-MOST_SIGNATURE c = decides _ accepted _ _ (omega arith)
 
 pub returns-then-side-gt-MOST_SIDE : goal.returns-then-side-gt-MOST_SIDE
 unfolding head_rows
-returns-then-side-gt-MOST_SIDE c = c.answer-then-side-gt-MOST_SIDE.ensures ∙ decides _ accepted _ _ (omega arith)
+returns-then-side-gt-MOST_SIDE c = decides _ accepted _ _ (omega arith)
 
 pub returns-then-head-ne-MAGIC : goal.returns-then-head-ne-MAGIC
 unfolding head_rows
-returns-then-head-ne-MAGIC c = c.answer-then-head-ne-MAGIC.ensures ∙ decides _ accepted _ _ (omega arith)
+returns-then-head-ne-MAGIC c = decides _ accepted _ _ (omega arith)
 
 pub returns-then-head-eq0 : goal.returns-then-head-eq0
 unfolding head_rows
-returns-then-head-eq0 c = c.answer-then-head-eq0.ensures ∙ decides _ accepted _ _ (omega arith)
+returns-then-head-eq0 c = decides _ accepted _ _ (omega arith)
 
 pub returns-then-head-gt-MOST_BLOBS : goal.returns-then-head-gt-MOST_BLOBS
 unfolding head_rows
-returns-then-head-gt-MOST_BLOBS c = c.answer-then-head-gt-MOST_BLOBS.ensures ∙ decides _ accepted _ _ (omega arith)
+returns-then-head-gt-MOST_BLOBS c = decides _ accepted _ _ (omega arith)
 
 pub returns-then-head-index_end : goal.returns-then-head-index_end
 unfolding head_rows
-returns-then-head-index_end c = c.answer-then-head-index_end.ensures ∙ decides _ accepted _ _ (omega arith)
+returns-then-head-index_end c = decides _ accepted _ _ (omega arith)
 
 pub returns-then-sig-head : goal.returns-then-sig-head
 unfolding head_rows
-returns-then-sig-head c = c.answer-then-sig-head.ensures ∙ decides _ accepted _ _ (omega arith)
+returns-then-sig-head c = decides _ accepted _ _ (omega arith)
 
 pub returns : goal.returns
 unfolding head_rows
-returns c = c.answer-2.ensures ∙ passes _ accepted (omega arith)
+returns c = passes _ accepted (omega arith)

@@ -1,14 +1,17 @@
 -- Tests 1 to 4, and where they pass 5 to 9.
-use native.Mathlib.Omega.{arith}
-use Rattle.refusals.proofs.Joined.{stops, goes}
+use Rattle.std.proofs.lemmas.Result.{err_from_is_err_and}
+use Rattle.refusals.specs.Refusals.{accepted}
+use Rattle.refusals.proofs.Results.{err_stops, ok_goes}
 use Rattle.superblob.specs.Rows.{head_rows, index_rows, rows}
 use Rattle.superblob.proofs.Numbers.{head_rows_unused}
 use Rattle.superblob.proofs.tested.Goals as goal
 
-pub returns-then-head-ne0 : goal.returns-then-head-ne0
+pub returns-in_err-head_tested : goal.returns-in_err-head_tested
 unfolding rows
-returns-then-head-ne0 c = stops (head_rows _ _) (index_rows _) _ _ (cc) (omega arith)
+returns-in_err-head_tested c =
+    let p = err_from_is_err_and c.from_residual.result c.from_residual.ensures.1 in
+    rw (p.1, p.2) (err_stops (head_rows _ _) (index_rows _) _ _ c.in_err-head_tested.ensures)
 
 pub returns : goal.returns
 unfolding rows
-returns c = goes (head_rows _ _) (index_rows _) _ c.head_tested-head.result _ (head_rows_unused _ _) (cc) (omega arith) (cc)
+returns c = ok_goes (head_rows _ _) (index_rows _) _ _ (head_rows_unused _ _) c.in_ok-head_tested.ensures c.index_tested.ensures
