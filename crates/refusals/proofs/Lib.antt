@@ -9,3 +9,4 @@ pub mod Ranges
 pub mod Plain
 pub mod Numbers
 pub mod Results
+pub mod Searches

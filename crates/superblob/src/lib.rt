@@ -260,14 +260,9 @@ fn position_of(sig: &[u8], slot_type: usize) -> usize
     ensures { result ≡ position sig.now slot_type }
 {
     let n = SuperBlob::read(sig).count;
-    let mut i = 0;
-    while i < n {
-        if type_at(sig, i) == slot_type {
-            return i;
-        }
-        i += 1;
-    }
-    i
+    (0..n)
+        .find(|i| type_at(sig, *i) == slot_type)
+        .unwrap_or(n)
 }
 
 // The magic that a slot type asks for; 0 where the type is not known.

@@ -1,21 +1,14 @@
-use native.Mathlib.Omega.{arith}
+use mathlib.Core.Path.{◌∙◌, ap, refl}
+use borrow.Author.Tests.{tests}
+use borrow.Author.Rules.{rules}
+use Rattle.refusals.specs.Refusals.{holds, lowest}
+use Rattle.refusals.proofs.Searches.{searched, found_lowest}
 use Rattle.superblob.specs.Rows.{of_type, position}
-use Rattle.refusals.proofs.Conditions.{says}
-use Rattle.refusals.proofs.Positions.{lowest_none, lowest_more, lowest_stop, lowest_end}
-use mathlib.Core.Bool.{true, false}
 use Rattle.superblob.proofs.position_of.Goals as goal
 
-pub loop-i-init : goal.loop-i-init
-loop-i-init c = (omega arith, omega arith, lowest_none _)
-
-pub returns-then-type_at-slot_type : goal.returns-then-type_at-slot_type
-unfolding position of_type
-returns-then-type_at-slot_type c = lowest_stop _ _ _ (omega arith) (cc) (says true _ (omega arith))
-
-pub loop-i-preserved : goal.loop-i-preserved
-unfolding of_type
-loop-i-preserved c = (omega arith, omega arith, lowest_more _ _ (cc) (says false _ (omega arith)))
-
 pub returns : goal.returns
-unfolding position
-returns c = lowest_end _ _ _ (omega arith) (cc)
+unfolding position of_type holds
+returns c =
+    let f = of_type c.args.sig.now c.args.slot_type in
+    let found = searched f _ _ _ c.find.result c.find.ensures.ran (λ x q k. search (rules, tests)) (λ x q k. search (rules, tests)) refl in
+    c.unwrap_or.ensures ∙ found_lowest f _ c.find.result found ∙ ap (lowest f) c.read-n.ensures.count_is
