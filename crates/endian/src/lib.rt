@@ -54,10 +54,8 @@ fn big_endian(s: &[u8], start: usize, field: usize, width: usize) -> u64
     ensures { (result ≡ big width s.now (start + field)) × (result < 256 ^ width) }
 {
     let mut n: u64 = 0;
-    let mut i = 0;
-    while i < width {
+    for i in 0..width {
         n = n * 256 + byte_past(s, start, field, i);
-        i += 1;
     }
     n
 }
@@ -68,10 +66,8 @@ fn little_endian(s: &[u8], start: usize, field: usize, width: usize) -> u64
     ensures { (result ≡ little width s.now (start + field)) × (result < 256 ^ width) }
 {
     let mut n: u64 = 0;
-    let mut i = 0;
-    while i < width {
+    for i in 0..width {
         n = n * 256 + byte_past(s, start, field, width - 1 - i);
-        i += 1;
     }
     n
 }
