@@ -3,6 +3,8 @@ use Rattle.std.specs.Prelude.{ℕ, ◌<◌, List, [], ◌∷◌, ◌⊎◌, ◌�
 use Rattle.endian.specs.Numbers.{big}
 use Rattle.refusals.specs.Ranges.{Range, range, lookup}
 use Rattle.layout.specs.declared.directory.CodeDirectory.{CodeDirectory}
+use Rattle.layout.specs.declared.kinds.HashKind.{HashKind}
+use Rattle.layout.specs.declared.kinds.HashKind.TheVariants as kind
 
 -- CONSTANTS OF THE LAYOUT
 
@@ -43,6 +45,12 @@ truncated_type = 3
 
 abbrev pub sha384_type : ℕ
 sha384_type = 4
+
+abbrev pub kind_number : HashKind → ℕ
+kind_number kind.Sha1 = sha1_type
+kind_number kind.Sha256 = sha256_type
+kind_number kind.Sha256Truncated = truncated_type
+kind_number kind.Sha384 = sha384_type
 
 -- a kind is one of these
 abbrev pub KnownKind : ℕ → Type 0

@@ -3,6 +3,8 @@
 ghost use Rattle.std.specs.Prelude.{◌≡◌, ◌*◌, ◌<◌, ◌≤◌, ◌^◌};
 ghost use Rattle.layout.specs.CodeDirectory.{DirectoryRead, width_of};
 
+use super::kinds::HashKind;
+
 // The fields of the head that document 01 lists, in their order. Offsets count from the directory's start.
 #[derive(Clone, Copy)]
 pub struct CodeDirectory {
@@ -30,15 +32,6 @@ impl CodeDirectory {
 
     // The slot type of the directory that is checked (CSSLOT_CODEDIRECTORY).
     pub const TYPE: u32 = 0;
-
-    // The hash kinds, by the number that hashType holds (CS_HASHTYPE_SHA1, .._SHA256, .._SHA256_TRUNCATED, .._SHA384).
-    pub const SHA1: usize = 1;
-
-    pub const SHA256: usize = 2;
-
-    pub const SHA256_TRUNCATED: usize = 3;
-
-    pub const SHA384: usize = 4;
 
     // Bytes of a slot of each kind.
     pub const SHA1_SLOT: usize = 20;
@@ -76,12 +69,9 @@ impl CodeDirectory {
     pub fn slot_width(kind: usize) -> usize
         ensures { (result ≡ width_of kind) × (result ≤ 48) }
     {
-        match kind {
-            CodeDirectory::SHA1 => CodeDirectory::SHA1_SLOT,
-            CodeDirectory::SHA256 => CodeDirectory::SHA256_SLOT,
-            CodeDirectory::SHA256_TRUNCATED => CodeDirectory::SHA256_TRUNCATED_SLOT,
-            CodeDirectory::SHA384 => CodeDirectory::SHA384_SLOT,
-            _ => 0,
+        match HashKind::of(kind) {
+            Some(kind) => kind.width(),
+            None => 0,
         }
     }
 

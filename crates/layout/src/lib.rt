@@ -6,6 +6,7 @@
 
 pub mod cache;
 pub mod directory;
+pub mod kinds;
 pub mod macho;
 pub mod parts;
 pub mod superblob;
