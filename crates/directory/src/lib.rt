@@ -9,6 +9,7 @@
 
 ghost use Rattle.std.specs.Prelude.{◌≡◌, ◌-◌, ◌*◌, ◌<◌, ◌≤◌, length};
 ghost use Rattle.refusals.specs.Refusals.{holds, first, accepted};
+ghost use Rattle.refusals.specs.Named.{test_answer};
 ghost use Rattle.layout.specs.CodeDirectory.{slot_width, n_special_slots, n_code_slots, ident_offset, scatter_offset, code_limit64};
 ghost use Rattle.directory.specs.Head.{scatter_version, limit64_version, head_size, head_of, since};
 ghost use Rattle.directory.specs.Pages.{code_limit, P, pages};
@@ -16,8 +17,7 @@ ghost use Rattle.directory.specs.Rows.{hash_outside, special_outside, code_outsi
 
 use layout::directory::CodeDirectory;
 use layout::parts::part;
-use refusals::Answer;
-use refusals::answers::answer;
+use refusals::Refusal;
 
 // The first version that has scatterOffset.
 const SCATTER_VERSION: usize = 0x20100;
@@ -34,17 +34,15 @@ pub const MOST_SPECIAL_SLOTS: u32 = 11;
 const MOST_CODE_LIMIT: u64 = 17179869184;
 
 // Tests 1 to 18. `side` is the length of the longest side file that is there, 0 where none is.
-pub fn tested(sig: &[u8], side: usize) -> Answer
-    ensures { result ≡ first (signature_rows side sig.now) accepted }
+pub fn tested(sig: &[u8], side: usize) -> Result<(), Refusal>
+    ensures { test_answer result ≡ first (signature_rows side sig.now) accepted }
 {
-    let blobs = superblob::tested(sig, side);
-    if blobs.number != 0 {
-        return blobs;
-    }
+    superblob::tested(sig, side)?;
     if superblob::has(sig, CodeDirectory::TYPE) {
-        return blob_tested(superblob::blob_of(sig, CodeDirectory::TYPE));
+        blob_tested(superblob::blob_of(sig, CodeDirectory::TYPE))
+    } else {
+        Err(Refusal::NoDirectory)
     }
-    answer(10, 0)
 }
 
 // The code limit: codeLimit64 where it is present and not 0, else codeLimit.
@@ -88,29 +86,26 @@ pub fn code_slots<'a>(d: &'a [u8]) -> &'a [u8]
 }
 
 // Tests 11 to 18 of the directory whose blob is d.
-fn blob_tested(d: &[u8]) -> Answer
-    ensures { result ≡ first (blob_rows d.now) accepted }
+fn blob_tested(d: &[u8]) -> Result<(), Refusal>
+    ensures { test_answer result ≡ first (blob_rows d.now) accepted }
 {
-    let fields = fields_tested(d);
-    if fields.number != 0 {
-        return fields;
-    }
+    fields_tested(d)?;
     slots_tested(d)
 }
 
 // Tests 11 to 15 and 35: the head, the hash kind, the page size, the flags (46), the code limit and scatter.
-fn fields_tested(d: &[u8]) -> Answer
-    ensures { result ≡ first (field_rows d.now) accepted }
+fn fields_tested(d: &[u8]) -> Result<(), Refusal>
+    ensures { test_answer result ≡ first (field_rows d.now) accepted }
 {
     if d.len() < CodeDirectory::VERSION_END {
-        return answer(12, 0);
+        return Err(Refusal::DirectoryHead);
     }
     let size = head_of(d);
     if size == 0 {
-        return answer(11, 0);
+        return Err(Refusal::Version);
     }
     if d.len() < size {
-        return answer(12, 0);
+        return Err(Refusal::DirectoryHead);
     }
     let head = CodeDirectory::read(d);
     let shift = head.page_shift;
@@ -118,69 +113,62 @@ fn fields_tested(d: &[u8]) -> Answer
     let limit64 = limit64_of(d);
     let scatter = scatter_of(d);
     if hash_outside(d) {
-        return answer(13, 0);
+        return Err(Refusal::HashKind);
     }
     match shift {
         0 | 12 | 14 => {}
-        _ => return answer(14, 0),
+        _ => return Err(Refusal::PageSize),
     }
     if flags | CodeDirectory::ALLOWED_FLAGS != CodeDirectory::ALLOWED_FLAGS {
-        return answer(46, 0);
+        return Err(Refusal::Flags);
     }
     if MOST_CODE_LIMIT < limit64 {
-        return answer(15, 0);
+        return Err(Refusal::CodeLimit);
     }
     if scatter != 0 {
-        return answer(35, 0);
+        return Err(Refusal::Scatter);
     }
-    answer(0, 0)
+    Ok(())
 }
 
 // The hash kind is not known, or the hash size is not the kind's own.
 fn hash_outside(d: &[u8]) -> bool
     ensures { result ≡ holds (hash_outside d.now) }
 {
-    let head = CodeDirectory::read(d);
     let width = slot_width(d);
-    if width == 0 {
-        return true;
-    }
-    if head.hash_size != width {
-        return true;
-    }
-    false
+    width == 0 || CodeDirectory::read(d).hash_size != width
 }
 
 // Tests 16 to 18: the slots and the identifier.
-fn slots_tested(d: &[u8]) -> Answer
-    ensures { result ≡ first (slot_rows d.now) accepted }
+fn slots_tested(d: &[u8]) -> Result<(), Refusal>
+    ensures { test_answer result ≡ first (slot_rows d.now) accepted }
 {
     let head = CodeDirectory::read(d);
     let code = head.code_slots;
     let special = head.special_slots;
     let ident = head.ident_offset;
     if code != page_count(d) {
-        return answer(16, 0);
+        return Err(Refusal::SlotCount);
     }
     if MOST_PAGES < code {
-        return answer(16, 0);
+        return Err(Refusal::SlotCount);
     }
     if (MOST_SPECIAL_SLOTS as usize) < special {
-        return answer(16, 0);
+        return Err(Refusal::SlotCount);
     }
     if special_outside(d) {
-        return answer(17, 0);
+        return Err(Refusal::SlotsOutside);
     }
     if code_outside(d) {
-        return answer(17, 0);
+        return Err(Refusal::SlotsOutside);
     }
     if ident < head_of(d) {
-        return answer(18, 0);
+        return Err(Refusal::Identifier);
     }
     if ident_length(d) == ident_room(d) {
-        return answer(18, 0);
+        return Err(Refusal::Identifier);
     }
-    answer(0, 0)
+    Ok(())
 }
 
 // A special slot reaches before the head's end or past the directory.
@@ -188,17 +176,8 @@ fn special_outside(d: &[u8]) -> bool
     ensures { result ≡ holds (special_outside d.now) }
 {
     let head = CodeDirectory::read(d);
-    let special = head.special_slots;
-    if special == 0 {
-        return false;
-    }
-    if head.hash_offset < head_of(d) + special_bytes(d) {
-        return true;
-    }
-    if d.len() < head.hash_offset {
-        return true;
-    }
-    false
+    let at = head.hash_offset;
+    head.special_slots != 0 && (at < head_of(d) + special_bytes(d) || d.len() < at)
 }
 
 // A code slot reaches before the head's end or past the directory.
@@ -206,17 +185,8 @@ fn code_outside(d: &[u8]) -> bool
     ensures { result ≡ holds (code_outside d.now) }
 {
     let head = CodeDirectory::read(d);
-    let code = head.code_slots;
-    if code == 0 {
-        return false;
-    }
-    if head.hash_offset < head_of(d) {
-        return true;
-    }
-    if d.len() < head.hash_offset + code_bytes(d) {
-        return true;
-    }
-    false
+    let at = head.hash_offset;
+    head.code_slots != 0 && (at < head_of(d) || d.len() < at + code_bytes(d))
 }
 
 // Bytes of each slot, by the directory's hash kind.
@@ -325,12 +295,7 @@ pub fn ident_length(d: &[u8]) -> usize
 {
     let start = CodeDirectory::read(d).ident_offset;
     let room = ident_room(d);
-    let mut i = 0;
-    while i < room {
-        if endian::byte(d, start, i) == 0 {
-            return i;
-        }
-        i += 1;
-    }
-    i
+    (0..room)
+        .find(|i| endian::byte(d, start, *i) == 0)
+        .unwrap_or(room)
 }

@@ -1,9 +1,9 @@
 -- What a condition says of numbers, and its test, both ways. Every law asks for orders and equations of numbers alone, so that one
 -- `omega arith` answers it.
-use Prim.Native.Nat.{ℕ}
+use Prim.Native.Nat.{ℕ, ◌<◌, ◌≤◌}
 use mathlib.Core.Bool.{Bool, true, false, not, ◌&&◌, ◌||◌, true≢false, false≢true}
 use mathlib.Core.Path.{◌≡◌, refl, sym, ◌∙◌}
-use lib.Dec.{eqb}
+use lib.Dec.{ltb, eqb}
 use borrow.Author.Tests.{lt-ltb, le-ltb, ltb-true, ltb-false, le-leb, lt-leb, leb-true, leb-false, eqb-true, eqb-false, eq-eqb, ne_eqb}
 use Rattle.refusals.specs.Refusals.{Cond, ◌<?◌, ◌≤?◌, ◌≡?◌, ◌≢?◌, ◌and◌, ◌or◌, holds, Says, pick}
 
@@ -107,3 +107,25 @@ pick_yes c x y v h e = rw (← says true c h) e
 pub pick_no : (c : Cond) (x y v : ℕ) → Says false c → v ≡ y → v ≡ pick c x y
 unfolding pick
 pick_no c x y v h e = rw (← says false c h) e
+
+-- a test of two numbers answers as a condition that says the same of them
+pub lt_says : (a b : ℕ) (c : Cond) → (a < b → Says true c) → (b ≤ a → Says false c) → ltb a b ≡ holds c
+lt_says a b c f g = by_test (ltb a b) refl
+  where
+    by_test : (t : Bool) → ltb a b ≡ t → t ≡ holds c
+    by_test true e = says true c (f (ltb-true a b e))
+    by_test false e = says false c (g (ltb-false a b e))
+
+pub ne_says : (a b : ℕ) (c : Cond) → ((a ≡ b → ⊥) → Says true c) → (a ≡ b → Says false c) → not (eqb a b) ≡ holds c
+ne_says a b c f g = by_test (eqb a b) refl
+  where
+    by_test : (t : Bool) → eqb a b ≡ t → not t ≡ holds c
+    by_test true e = says false c (g (eqb-true a b e))
+    by_test false e = says true c (f (eqb-false a b e))
+
+pub eq_says : (a b : ℕ) (c : Cond) → (a ≡ b → Says true c) → ((a ≡ b → ⊥) → Says false c) → eqb a b ≡ holds c
+eq_says a b c f g = by_test (eqb a b) refl
+  where
+    by_test : (t : Bool) → eqb a b ≡ t → t ≡ holds c
+    by_test true e = says true c (f (eqb-true a b e))
+    by_test false e = says false c (g (eqb-false a b e))

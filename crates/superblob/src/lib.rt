@@ -45,9 +45,9 @@ pub struct Span {
 pub fn find_span(sig: &[u8], slot_type: u32) -> Span
     ensures { Found sig.now slot_type result }
 {
-    if tested(sig, 0).is_err() {
+    let Ok(()) = tested(sig, 0) else {
         return Span { start: 0, end: 0 };
-    }
+    };
     let i = position_of(sig, slot_type as usize);
     if SuperBlob::read(sig).count <= i {
         return Span { start: 0, end: 0 };

@@ -1,5 +1,5 @@
 -- Each refusal is the first row that holds: the rows before it are the tests passed on the way.
-use mathlib.Core.Path.{◌≡◌, refl, ap, ◌∙◌}
+use mathlib.Core.Path.{◌≡◌, refl, ap}
 use Prim.Native.Nat.{ℕ}
 use mathlib.Core.Logic.{◌⊎◌, inl, inr, ⊎_elim}
 use native.Mathlib.Omega.{arith}
@@ -24,55 +24,55 @@ same_join x y e = ap (λ (z : ℕ). bit_or z allowed_flags) e
 
 pub returns-then-d-lt-VERSION_END : goal.returns-then-d-lt-VERSION_END
 unfolding field_rows
-returns-then-d-lt-VERSION_END c = c.answer.ensures ∙ decides _ accepted _ _ (omega arith)
+returns-then-d-lt-VERSION_END c = decides _ accepted _ _ (omega arith)
 
 pub returns-then-size-eq0 : goal.returns-then-size-eq0
 unfolding field_rows
 returns-then-size-eq0 c = let unknown = version_unknown _ _ c.head_of-size.ensures.0 (omega arith) in
-    c.answer-then-size-eq0.ensures ∙ decides _ accepted _ _ ((omega arith, unknown), refl)
+    decides _ accepted _ _ ((omega arith, unknown), refl)
 
 pub returns-then-d-size : goal.returns-then-d-size
 unfolding field_rows
 returns-then-d-size c = let known = version_known _ _ c.head_of-size.ensures.0 c.if-size-eq0.false in
-    c.answer-then-d-size.ensures ∙ decides _ accepted _ _ (omega arith)
+    decides _ accepted _ _ (omega arith)
 
 pub returns-then-hash_outside : goal.returns-then-hash_outside
 unfolding field_rows
 returns-then-hash_outside c = let known = version_known _ _ c.head_of-size.ensures.0 c.if-size-eq0.false in
     let hash = held _ _ c.hash_outside.ensures c.if-hash_outside.true in
-    c.answer-then-hash_outside.ensures ∙ decides _ accepted _ _ (omega arith, (omega arith, (hash, refl)))
+    decides _ accepted _ _ (omega arith, (omega arith, (hash, refl)))
 
 pub returns-in_default : goal.returns-in_default
 unfolding field_rows
 returns-in_default c = let known = version_known _ _ c.head_of-size.ensures.0 c.if-size-eq0.false in
     let hash = fell _ _ c.hash_outside.ensures c.if-hash_outside.false in
     let k = none_of _ c.in_default.in_default-own.rest.1 in
-    c.answer-in_default.ensures ∙ decides _ accepted _ _ (omega arith, (omega arith, (hash, omega arith)))
+    decides _ accepted _ _ (omega arith, (omega arith, (hash, omega arith)))
 
 pub returns-then-flags-ne-ALLOWED_FLAGS : goal.returns-then-flags-ne-ALLOWED_FLAGS
 unfolding field_rows
 returns-then-flags-ne-ALLOWED_FLAGS c = let known = version_known _ _ c.head_of-size.ensures.0 c.if-size-eq0.false in
     let joined = same_join _ _ c.read-head.ensures.flags_is in
     let hash = fell _ _ c.hash_outside.ensures c.if-hash_outside.false in
-    by_shift _ (λ e. c.answer-then-flags-ne-ALLOWED_FLAGS.ensures ∙ decides _ accepted _ _ (omega arith, (omega arith, (hash, omega arith)))) (λ e. c.answer-then-flags-ne-ALLOWED_FLAGS.ensures ∙ decides _ accepted _ _ (omega arith, (omega arith, (hash, omega arith)))) (λ e. c.answer-then-flags-ne-ALLOWED_FLAGS.ensures ∙ decides _ accepted _ _ (omega arith, (omega arith, (hash, omega arith)))) c.in-0.is
+    by_shift _ (λ e. decides _ accepted _ _ (omega arith, (omega arith, (hash, omega arith)))) (λ e. decides _ accepted _ _ (omega arith, (omega arith, (hash, omega arith)))) (λ e. decides _ accepted _ _ (omega arith, (omega arith, (hash, omega arith)))) c.in-0.is
 
 pub returns-then-limit64-gt-MOST_CODE_LIMIT : goal.returns-then-limit64-gt-MOST_CODE_LIMIT
 unfolding field_rows
 returns-then-limit64-gt-MOST_CODE_LIMIT c = let known = version_known _ _ c.head_of-size.ensures.0 c.if-size-eq0.false in
     let joined = same_join _ _ c.read-head.ensures.flags_is in
     let hash = fell _ _ c.hash_outside.ensures c.if-hash_outside.false in
-    by_shift _ (λ e. c.answer-then-limit64-gt-MOST_CODE_LIMIT.ensures ∙ decides _ accepted _ _ (omega arith, (omega arith, (hash, omega arith)))) (λ e. c.answer-then-limit64-gt-MOST_CODE_LIMIT.ensures ∙ decides _ accepted _ _ (omega arith, (omega arith, (hash, omega arith)))) (λ e. c.answer-then-limit64-gt-MOST_CODE_LIMIT.ensures ∙ decides _ accepted _ _ (omega arith, (omega arith, (hash, omega arith)))) c.in-0.is
+    by_shift _ (λ e. decides _ accepted _ _ (omega arith, (omega arith, (hash, omega arith)))) (λ e. decides _ accepted _ _ (omega arith, (omega arith, (hash, omega arith)))) (λ e. decides _ accepted _ _ (omega arith, (omega arith, (hash, omega arith)))) c.in-0.is
 
 pub returns-then-scatter-ne0 : goal.returns-then-scatter-ne0
 unfolding field_rows
 returns-then-scatter-ne0 c = let known = version_known _ _ c.head_of-size.ensures.0 c.if-size-eq0.false in
     let joined = same_join _ _ c.read-head.ensures.flags_is in
     let hash = fell _ _ c.hash_outside.ensures c.if-hash_outside.false in
-    by_shift _ (λ e. c.answer-then-scatter-ne0.ensures ∙ decides _ accepted _ _ (omega arith, (omega arith, (hash, omega arith)))) (λ e. c.answer-then-scatter-ne0.ensures ∙ decides _ accepted _ _ (omega arith, (omega arith, (hash, omega arith)))) (λ e. c.answer-then-scatter-ne0.ensures ∙ decides _ accepted _ _ (omega arith, (omega arith, (hash, omega arith)))) c.in-0.is
+    by_shift _ (λ e. decides _ accepted _ _ (omega arith, (omega arith, (hash, omega arith)))) (λ e. decides _ accepted _ _ (omega arith, (omega arith, (hash, omega arith)))) (λ e. decides _ accepted _ _ (omega arith, (omega arith, (hash, omega arith)))) c.in-0.is
 
 pub returns : goal.returns
 unfolding field_rows
 returns c = let known = version_known _ _ c.head_of-size.ensures.0 c.if-size-eq0.false in
     let joined = same_join _ _ c.read-head.ensures.flags_is in
     let hash = fell _ _ c.hash_outside.ensures c.if-hash_outside.false in
-    by_shift _ (λ e. c.answer-2.ensures ∙ passes _ accepted (omega arith, (omega arith, (hash, omega arith)))) (λ e. c.answer-2.ensures ∙ passes _ accepted (omega arith, (omega arith, (hash, omega arith)))) (λ e. c.answer-2.ensures ∙ passes _ accepted (omega arith, (omega arith, (hash, omega arith)))) c.in-0.is
+    by_shift _ (λ e. passes _ accepted (omega arith, (omega arith, (hash, omega arith)))) (λ e. passes _ accepted (omega arith, (omega arith, (hash, omega arith)))) (λ e. passes _ accepted (omega arith, (omega arith, (hash, omega arith)))) c.in-0.is

@@ -1,22 +1,17 @@
--- Each return is one part of the condition.
+-- Each part of the condition is a test of two numbers.
 use native.Mathlib.Omega.{arith}
-use mathlib.Core.Bool.{true, false}
-use Rattle.refusals.proofs.Conditions.{says}
+use Rattle.refusals.proofs.Conditions.{lt_says, ne_says}
 use Rattle.directory.specs.Rows.{special_outside}
 use Rattle.directory.proofs.special_outside.Goals as goal
 
-pub returns-then-special-eq0 : goal.returns-then-special-eq0
+pub returns-then-at-head_of : goal.returns-then-at-head_of
 unfolding special_outside
-returns-then-special-eq0 c = says false _ (omega arith)
+returns-then-at-head_of c = lt_says _ _ _ (λ h. omega arith) (λ h. omega arith)
 
-pub returns-then-head-head_of : goal.returns-then-head-head_of
+pub returns-else-at-head_of : goal.returns-else-at-head_of
 unfolding special_outside
-returns-then-head-head_of c = says true _ (omega arith)
+returns-else-at-head_of c = lt_says _ _ _ (λ h. omega arith) (λ h. omega arith)
 
-pub returns-then-d-head : goal.returns-then-d-head
+pub returns-else-head-ne0 : goal.returns-else-head-ne0
 unfolding special_outside
-returns-then-d-head c = says true _ (omega arith)
-
-pub returns : goal.returns
-unfolding special_outside
-returns c = says false _ (omega arith)
+returns-else-head-ne0 c = ne_says _ _ _ (λ h. omega arith) (λ h. omega arith)

@@ -37,9 +37,6 @@ returns-then-k-eq0 c = c.part.ensures ∙ none _ _ (λ l. omega arith)
 pub returns-then-special-k : goal.returns-then-special-k
 returns-then-special-k c = c.part-then-special-k.ensures ∙ none _ _ (λ l. omega arith)
 
-pub slot_bytes-back-requires : goal.slot_bytes-back-requires
-slot_bytes-back-requires c = omega arith
-
 pub returns-then-at-back : goal.returns-then-at-back
 returns-then-at-back c = c.part-then-at-back.ensures
     ∙ from_start _ _ _ _ _ c.read-head.ensures.hash_offset_is c.slot_bytes-back.ensures.0 c.slot_width-width.ensures.0 (omega arith) (omega arith)
