@@ -2,11 +2,12 @@
 use Prim.Native.Nat.{ℕ, zero, suc, ◌<◌}
 use mathlib.Core.Bool.{Bool, true, false, ◌&&◌, false≢true}
 use mathlib.Core.List.{List, [], ◌∷◌}
-use mathlib.Core.Path.{◌≡◌, refl, sym}
+use mathlib.Core.Path.{◌≡◌, refl, sym, ap}
 use native.Mathlib.Omega.{arith}
 use lib.Dec.{eqb}
 use lib.ListN.{length, get_or}
 use borrow.Author.Tests.{eqb-true, eqb-false, eq-eqb}
+use Rattle.std.specs.List.{list_all}
 use Rattle.slots.specs.Slots.{all_zero}
 
 -- each is zero
@@ -41,3 +42,9 @@ some_not_zero (b ∷ bs) e = at_first (eqb b 0) refl e (some_not_zero bs)
     at_first : (t : Bool) → eqb b 0 ≡ t → (t && all_zero bs) ≡ false → (all_zero bs ≡ false → (i : ℕ) × (get_or bs i 0 ≡ 0 → ⊥)) → (i : ℕ) × (get_or (b ∷ bs) i 0 ≡ 0 → ⊥)
     at_first true q e rest = let w = rest e in (suc w.0, w.1)
     at_first false q e rest = (zero, eqb-false b 0 q)
+
+-- the test of each byte
+pub all_zero_list : (l : List ℕ) → list_all (λ x. eqb x 0) l ≡ all_zero l
+unfolding all_zero
+all_zero_list [] = refl
+all_zero_list (b ∷ bs) = ap (λ (t : Bool). eqb b 0 && t) (all_zero_list bs)

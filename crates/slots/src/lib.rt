@@ -5,116 +5,70 @@
 // filled while its thing is not. The test's definition is specs/Slots.antt, and its plain reading specs/Matches.antt.
 #![tactic(auto)]
 
-ghost use Rattle.std.specs.Prelude.{◌≡◌, ◌+◌};
-ghost use Rattle.refusals.specs.Refusals.{lowest, faulty, first, accepted};
+mod sides;
+
+ghost use Rattle.std.specs.Prelude.{◌≡◌, ◌<◌, true, IfSome};
+ghost use Rattle.refusals.specs.Refusals.{first, accepted};
+ghost use Rattle.refusals.specs.Named.{test_answer};
 ghost use Rattle.digest.specs.Kinds.{digest_of};
 ghost use Rattle.digest.specs.Same.{same};
-ghost use Rattle.directory.specs.Rows.{most_special_slots};
-ghost use Rattle.slots.specs.Slots.{sides, all_zero, fault_of, fault, special_rows};
+ghost use Rattle.slots.specs.Slots.{all_zero, there, thing, fault_of, fault, special_rows};
+ghost use Rattle.slots.specs.Lent.{is_there, bytes_of, sides_of, slot_answer};
 
 use directory::MOST_SPECIAL_SLOTS;
 use layout::directory::CodeDirectory;
-use refusals::Answer;
-use refusals::answers::answer;
+use refusals::Refusal;
+pub use sides::SideFiles;
 
-// Tests 21 to 23 of the directory d, over k from 1 to 11. A side file whose flag is off is not read.
-pub fn tested(
-    sig: &[u8],
-    d: &[u8],
-    info_there: bool,
-    info: &[u8],
-    resources_there: bool,
-    resources: &[u8],
-) -> Answer
-    ensures { result ≡ first (special_rows sig.now d.now (sides info_there info.now resources_there resources.now)) accepted }
+// Tests 21 to 23 of the directory d, over k from 1 to 11.
+pub fn tested(sig: &[u8], d: &[u8], sides: SideFiles<'_>) -> Result<(), Refusal>
+    ensures { test_answer result ≡ first (special_rows sig.now d.now (sides_of sides.entry)) accepted }
 {
-    let k = lowest_fault(sig, d, info_there, info, resources_there, resources);
-    if MOST_SPECIAL_SLOTS < k {
-        return answer(0, 0);
+    for k in 1..MOST_SPECIAL_SLOTS + 1 {
+        slot_tested(sig, d, sides, k)?;
     }
-    answer(
-        fault_at(sig, d, info_there, info, resources_there, resources, k),
-        k as usize,
-    )
+    Ok(())
 }
 
-// The lowest slot at which something is wrong; 12 where nothing is.
-fn lowest_fault(
-    sig: &[u8],
-    d: &[u8],
-    info_there: bool,
-    info: &[u8],
-    resources_there: bool,
-    resources: &[u8],
-) -> u32
-    ensures { result ≡ lowest (faulty (fault sig.now d.now (sides info_there info.now resources_there resources.now))) (most_special_slots + 1) }
-{
-    let mut k: u32 = 1;
-    while k <= MOST_SPECIAL_SLOTS {
-        if fault_at(sig, d, info_there, info, resources_there, resources, k) != 0 {
-            return k;
-        }
-        k += 1;
-    }
-    k
-}
-
-// What is wrong at slot k: 21, 22 or 23; 0 where nothing is.
-fn fault_at(
-    sig: &[u8],
-    d: &[u8],
-    info_there: bool,
-    info: &[u8],
-    resources_there: bool,
-    resources: &[u8],
-    k: u32,
-) -> u32
-    ensures { result ≡ fault sig.now d.now (sides info_there info.now resources_there resources.now) k }
+// Slot k against its thing.
+fn slot_tested(sig: &[u8], d: &[u8], sides: SideFiles<'_>, k: u32) -> Result<(), Refusal>
+    requires { 0 < k }
+    ensures { test_answer result ≡ slot_answer (fault sig.now d.now (sides_of sides.entry) k) k }
 {
     let kind = CodeDirectory::read(d).hash_type;
     let slot = directory::special_slot(d, k as usize);
+    thing_tested(kind, slot, thing_of(sig, sides, k), k as usize)
+}
+
+// The thing that slot k covers, where it is there.
+fn thing_of<'a>(sig: &'a [u8], sides: SideFiles<'a>, k: u32) -> Option<&'a [u8]>
+    requires { 0 < k }
+    ensures flag { is_there result ≡ there sig.now (sides_of sides.entry) k }
+    ensures bytes { is_there result ≡ true → bytes_of result ≡ thing sig.now (sides_of sides.entry) k }
+{
     match k {
-        0 => 0,
-        1 => fault_of(kind, slot, info_there, info),
-        3 => fault_of(kind, slot, resources_there, resources),
-        4 | 6 => fault_of(kind, slot, false, superblob::blob_of(sig, k)),
-        _ => fault_of(
-            kind,
-            slot,
-            superblob::has(sig, k),
-            superblob::blob_of(sig, k),
-        ),
+        1 => sides.info,
+        3 => sides.resources,
+        4 | 6 => None,
+        _ => superblob::has(sig, k).then_some(superblob::blob_of(sig, k)),
     }
 }
 
-// What is wrong at a special slot, by the directory's hash kind, the slot's bytes, whether its thing is there, and the thing's bytes.
-fn fault_of(kind: usize, slot: &[u8], there: bool, thing: &[u8]) -> u32
-    ensures { result ≡ fault_of (all_zero slot.now) there (same (digest_of kind thing.now) slot.now) }
+// Slot k, by the directory's hash kind, the slot's bytes, and the thing, where it is there.
+fn thing_tested(kind: usize, slot: &[u8], thing: Option<&[u8]>, k: usize) -> Result<(), Refusal>
+    ensures { test_answer result ≡ slot_answer (fault_of (all_zero slot.now) (is_there thing.entry) (same (digest_of kind (bytes_of thing.entry)) slot.now)) k }
 {
-    if all_zero(slot) {
-        if there {
-            return 23;
-        }
-        return 0;
+    match (thing, all_zero(slot)) {
+        (Some(_), true) => Err(Refusal::EmptySlot(k)),
+        (Some(thing), false) if digest::agrees(kind, thing, slot) => Ok(()),
+        (Some(_), false) => Err(Refusal::OtherHash(k)),
+        (None, true) => Ok(()),
+        (None, false) => Err(Refusal::NoThing(k)),
     }
-    if there {
-        if digest::agrees(kind, thing, slot) {
-            return 0;
-        }
-        return 22;
-    }
-    21
 }
 
 fn all_zero(slot: &[u8]) -> bool
     ensures { result ≡ all_zero slot.now }
 {
-    let mut i: usize = 0;
-    while i < slot.len() {
-        if slot[i] != 0 {
-            return false;
-        }
-        i += 1;
-    }
-    true
+    slot.iter().all(|byte| *byte == 0)
 }

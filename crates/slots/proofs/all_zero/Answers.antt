@@ -1,17 +1,13 @@
-use native.Mathlib.Omega.{arith}
+use mathlib.Core.Path.{◌∙◌}
+use lib.Dec.{eqb}
 use borrow.Author.Rules.{rules}
-use Rattle.slots.proofs.Zeros.{not_all_zero, every_zero}
-use borrow.Author.Count.{below_more}
+use borrow.Author.Tests.{tests}
+use Rattle.std.proofs.lemmas.Iterator.{YieldsList-from_slice}
+use Rattle.std.proofs.lemmas.Iterator.Search.{all_from_yields_List}
+use Rattle.slots.proofs.Zeros.{all_zero_list}
 use Rattle.slots.proofs.all_zero.Goals as goal
 
-pub loop-i-init : goal.loop-i-init
-loop-i-init c = (search rules, λ k l. absurd (omega arith))
-
-pub returns-then-slot-i-ne0 : goal.returns-then-slot-i-ne0
-returns-then-slot-i-ne0 c = not_all_zero _ _ c.if-slot-i-ne0.true
-
-pub loop-i-preserved : goal.loop-i-preserved
-loop-i-preserved c = (search rules, below_more _ _ c.loop-i.invariant.1 c.if-slot-i-ne0.false)
-
 pub returns : goal.returns
-returns c = every_zero _ (λ k l. c.loop-i.invariant.1 k (omega arith))
+returns c =
+    all_from_yields_List (λ x. eqb x 0) _ _ c.all.result c.all.ensures.ran (YieldsList-from_slice c.args.slot.now (cc)) (λ x b q k. search (rules, tests))
+    ∙ all_zero_list c.args.slot.now
