@@ -1,32 +1,32 @@
--- What the private functions hand on: a command by its position and where it starts, the first at which a test holds, and the part that it names.
-use Rattle.std.specs.Prelude.{ℕ, ◌+◌, ◌*◌, ◌<◌, ◌≤◌, List, ◌≡◌}
-use Rattle.refusals.specs.Refusals.{Cond, lowest}
-use Rattle.layout.specs.MachO.{mach_head, ncmds, command_at, dataoff, datasize}
-use Rattle.layout.specs.declared.macho.LinkeditData.{LinkeditData}
-use Rattle.macho.specs.declared.Command.{Command}
-use Rattle.macho.specs.declared.Test.{Test}
-use Rattle.macho.specs.declared.Test.TheVariants as test
-use Rattle.macho.specs.Rows.{most_commands, malformed, is_signature, wrong_signature}
+-- What the private functions hand on: the first command at which a test holds, and the part of the file that the signature's command names.
+use Rattle.std.specs.Prelude.{ℕ, ◌<◌, ◌≤◌, Bool, List, Option, MatchOption, Result, Ok, Err, ◌≡◌, length}
+use Rattle.refusals.specs.declared.refusal.Refusal.{Refusal}
+use Rattle.refusals.specs.Named.{answer_of}
+use Rattle.refusals.specs.Refusals.{Cond, holds, lowest, first, accepted}
+use Rattle.layout.specs.MachO.{ncmds, command_at, dataoff}
+use Rattle.macho.specs.declared.Span.{Span}
+use Rattle.macho.specs.declared.command.Command.{Command}
+use Rattle.macho.specs.Rows.{signature_command, data_end, span_rows}
 
--- what is tested of a command
-abbrev pub failing : Test → List ℕ → ℕ → Cond
-failing test.Malformed f = malformed f
-failing test.Signature f = is_signature f
-failing (test.WrongSignature k) f = wrong_signature f k
+-- `post` relates a command to what a test may answer of it: of each command of the file it answers as f holds at the position
+abbrev pub AnswersAs : (Command → Bool → Type 0) → List ℕ → (ℕ → Cond) → Type 0
+AnswersAs post file f = (c : Command) (b : Bool) → c.file.now ≡ file → post c b → b ≡ holds (f c.index)
 
--- the command starts where its position says; no further than the header and the most commands reach, each with a size below 2 to the 32
-pub record Stands (f : List ℕ) (c : Command) : Type 0 where
-  pub at_is : c.at ≡ command_at f c.index
-  pub at_most : c.at ≤ mach_head + 4294967296 * most_commands
+-- the first command at which such a test holds
+abbrev pub First : (Command → Bool → Type 0) → List ℕ → Option Command → Type 0
+First post file r =
+    (f : ℕ → Cond) → AnswersAs post file f
+    → MatchOption r (lowest f (ncmds file) ≡ ncmds file) (λ c. (c.index < ncmds file) × (c.index ≡ lowest f (ncmds file)) × (c.at ≡ command_at file c.index))
 
--- the first command at which a test holds
-pub record Reached (f : List ℕ) (t : Test) (c : Command) : Type 0 where
-  pub index_is : c.index ≡ lowest (failing t f) (ncmds f)
-  pub stands : Stands f c
+-- the part that the first LC_CODE_SIGNATURE names
+pub record NamedPart (f : List ℕ) (r : Span) : Type 0 where
+  pub command_is : r.command ≡ signature_command f
+  pub start_is : r.start ≡ dataoff f (signature_command f)
+  pub end_is : r.end ≡ data_end f (signature_command f)
+  pub ordered : r.start ≤ r.end
+  pub within : r.end ≤ length f
 
--- the part that command i names
-pub record DataOf (f : List ℕ) (i : ℕ) (d : LinkeditData) : Type 0 where
-  pub dataoff_is : d.dataoff ≡ dataoff f i
-  pub datasize_is : d.datasize ≡ datasize f i
-  pub dataoff_below : d.dataoff < 4294967296
-  pub datasize_below : d.datasize < 4294967296
+-- tests 38 to 40: that part where they pass
+abbrev pub SpanTested : List ℕ → Result Span Refusal → Type 0
+SpanTested f (Ok span) = (accepted ≡ first (span_rows f) accepted) × NamedPart f span
+SpanTested f (Err r) = answer_of r ≡ first (span_rows f) accepted

@@ -1,7 +1,9 @@
 -- Tests 36 to 40 of request 4, and the signature's part of a file. `f` is the lent file.
-use Rattle.std.specs.Prelude.{ℕ, ◌+◌, ◌-◌, ◌%◌, ◌≤◌, List, [], ◌∷◌, ◌++◌, ◌≡◌, length, take, drop}
+use Rattle.std.specs.Prelude.{ℕ, ◌+◌, ◌-◌, ◌%◌, ◌≤◌, List, [], ◌∷◌, ◌++◌, Result, Ok, Err, ◌≡◌, length, take, drop}
 use Rattle.refusals.specs.Refusals.{◌<?◌, ◌≡?◌, ◌≢?◌, ◌and◌, ◌or◌, Cond, pick, lowest, Row, row, over, first, accepted}
 use Rattle.layout.specs.MachO.{mach_magic, mach_head, command_head, command_align, code_signature_type, linkedit_size, header_magic, ncmds, sizeofcmds, command_at, cmd, cmdsize, dataoff, datasize}
+use Rattle.refusals.specs.declared.refusal.Refusal.{Refusal}
+use Rattle.refusals.specs.Named.{answer_of}
 use Rattle.macho.specs.declared.Span.{Span}
 
 -- LIMITS
@@ -96,3 +98,12 @@ pub record Spanned (f : List ℕ) (r : Span) : Type 0 where
   pub end_is : r.end ≡ signature_end f
   pub ordered : r.start ≤ r.end
   pub within : r.end ≤ length f
+
+-- where it is not
+abbrev pub nowhere : Span
+nowhere = record { command = 0; start = 0; end = 0 }
+
+-- the answer of tests 36 to 40, with where the signature lies
+abbrev pub SignatureIn : List ℕ → Result Span Refusal → Type 0
+SignatureIn f (Ok span) = (accepted ≡ first (walk_rows f) accepted) × Spanned f span
+SignatureIn f (Err r) = (answer_of r ≡ first (walk_rows f) accepted) × Spanned f nowhere

@@ -1,12 +1,15 @@
 -- A test's result: a refusal has a number, and one table after another in the words of results.
+use mathlib.Core.Bool.{true, false, true≢false}
 use mathlib.Core.List.{List, ◌++◌}
-use mathlib.Core.Path.{◌≡◌, sym, ap}
+use mathlib.Core.Path.{◌≡◌, refl, sym, ap}
+use Rattle.std.specs.Prelude.{Result, Ok, Err}
+use Rattle.std.specs.Result.{is_ok}
 use native.Mathlib.Omega.{arith}
 use Rattle.refusals.specs.declared.Answer.{Answer}
 use Rattle.refusals.specs.declared.refusal.Refusal.{Refusal}
 use Rattle.refusals.specs.declared.refusal.Refusal.TheVariants as refusal
 use Rattle.refusals.specs.Refusals.{Row, accepted, first, Passes}
-use Rattle.refusals.specs.Named.{answer_of}
+use Rattle.refusals.specs.Named.{answer_of, test_answer}
 use Rattle.refusals.proofs.Exact.{Unused, passed}
 use Rattle.refusals.proofs.Joined.{stops, goes_on}
 
@@ -65,3 +68,12 @@ ok_passes rows u e = passed rows accepted 0 u (sym (ap (λ (a : Answer). a.numbe
 
 pub ok_goes : (rows more : List Row) (done b : Answer) → Unused rows 0 → accepted ≡ first rows accepted → b ≡ first more done → b ≡ first (rows ++ more) done
 ok_goes rows more done b u e f = goes_on rows more done b (ok_passes rows u e) f
+
+-- a test passes exactly where its result is an Ok
+pub ok_accepts : (t : Result Unit Refusal) → true ≡ is_ok t → (test_answer t).number ≡ 0
+ok_accepts (Ok u) e = refl
+ok_accepts (Err r) e = absurd (true≢false e)
+
+pub err_refuses : (t : Result Unit Refusal) → false ≡ is_ok t → (test_answer t).number ≡ 0 → ⊥
+err_refuses (Ok u) e z = absurd (true≢false (sym e))
+err_refuses (Err r) e z = refused r z

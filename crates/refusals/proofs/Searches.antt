@@ -1,23 +1,25 @@
 -- A search through a range by `find`: it stops at the lowest position at which the test holds.
 use Prim.Native.Nat.{ℕ, ◌<◌, ◌≤◌}
 use mathlib.Core.Bool.{Bool, true, false}
-use mathlib.Core.Path.{◌≡◌, sym, subst}
+use mathlib.Core.Path.{◌≡◌, sym, ap, subst}
 use Rattle.std.specs.declared.ops.Range.{Range}
 use Rattle.std.specs.Option.{MatchOption, unwrap_or}
 use Rattle.std.specs.Prelude.{Option, None, Some}
 use native.Mathlib.Omega.{arith}
 use denote.Param.Members.{Mut}
 use denote.Ref.{Bor}
+use lib.ListN.{length, get_or}
 use mathlib.Core.List.{List}
-use Rattle.std.proofs.lemmas.Iterator.{first_from_Range}
+use Rattle.std.proofs.lemmas.Iterator.{YieldsList-from_range, cases_from_any, first_from_Range}
+use Rattle.std.proofs.lemmas.List.FromFn.{length-range_with_len, get_or-range_with_len}
 use Rattle.std.proofs.iter.Yields.{nat_range_steps}
-use Rattle.std.specs.Bool.{⊤}
-use Rattle.std.specs.Fn.{CalledAt}
+use Rattle.std.specs.Bool.{⊤, MatchBool}
+use Rattle.std.specs.Fn.{Called, CalledAt}
 use Rattle.std.specs.Iterator.{YieldsThen}
-use Rattle.std.specs.List.{FoldsTo}
-use Rattle.refusals.specs.Refusals.{Cond, holds, lowest}
-use Rattle.refusals.proofs.Conditions.{said}
-use Rattle.refusals.proofs.Positions.{none_fails, lowest_stop}
+use Rattle.std.specs.List.{FoldsTo, AllWithin, HoldsAt, range_with_len}
+use Rattle.refusals.specs.Refusals.{◌<?◌, Cond, holds, lowest}
+use Rattle.refusals.proofs.Conditions.{says, said}
+use Rattle.refusals.proofs.Positions.{none_fails, some_fails, lowest_stop}
 
 -- what such a search found, of a test that answers as f holds
 abbrev pub Found : (ℕ → Cond) → ℕ → Option ℕ → Type 0
@@ -37,3 +39,43 @@ pub searched : {F : Type 0} {g : Mut F (Bor ℕ × Unit {0}) Bool} (f : ℕ → 
 searched f s u p r ran held failed z =
     subst (λ (a : ℕ). MatchOption r ((k : ℕ) → a ≤ k → k < s.end → false ≡ holds (f k)) (λ i. (a ≤ i) × (i < s.end) × (true ≡ holds (f i)) × ((k : ℕ) → a ≤ k → k < i → false ≡ holds (f k)))) z
     (first_from_Range s u p r (λ k. true ≡ holds (f k)) (λ k. false ≡ holds (f k)) ran held failed)
+
+-- the lowest position, by what was found
+abbrev pub Lowest : (ℕ → Cond) → ℕ → Option ℕ → Type 0
+Lowest f n r = MatchOption r (lowest f n ≡ n) (λ i. (i < n) × (i ≡ lowest f n))
+
+search_lowest : (f : ℕ → Cond) (n : ℕ) (r : Option ℕ) → Found f n r → Lowest f n r
+search_lowest f n None h = sym (found_lowest f n None h)
+search_lowest f n (Some i) h = (h.1, found_lowest f n (Some i) h)
+
+-- what a call of `find` over a range says of the lowest position
+pub finds : {F : Type 0} {g : Mut F (Bor ℕ × Unit {0}) Bool} (f : ℕ → Cond) (n : ℕ) (s u : Range ℕ) (p : F) (r : Option ℕ)
+    → (xs : List ℕ) × (j : F) × YieldsThen nat_range_steps s xs r u × FoldsTo (λ p x q. CalledAt g p x false q) p xs j × MatchOption r ⊤ (λ x. (h : F) × CalledAt g j x true h)
+    → ((x : ℕ) (q : F) → CalledAt g p x true q → true ≡ holds (f x))
+    → ((x : ℕ) (q : F) → CalledAt g p x false q → (q ≡ p) × (false ≡ holds (f x)))
+    → s.start ≡ 0 → s.end ≡ n → Lowest f n r
+finds f n s u p r ran held failed z e = subst (λ (n : ℕ). Lowest f n r) e (search_lowest f s.end r (searched f s u p r ran held failed z))
+
+-- what `any` says of a range: that a search for the lowest position finds one
+pub any_lowest : {F : Type 0} {g : Mut F (ℕ × Unit {0}) Bool} (f : ℕ → Cond) (s u : Range ℕ) (p : F) (r : Bool)
+    → (xs : List ℕ) × (o : Option ℕ) × (j : F) × YieldsThen nat_range_steps s xs o u × FoldsTo (λ p x q. Called g p (x, tt) false q) p xs j × MatchOption o (r ≡ false) (λ x. (r ≡ true) × ((h : F) × Called g j (x, tt) true h))
+    → ((x : ℕ) (q : F) → Called g p (x, tt) true q → true ≡ holds (f x))
+    → ((x : ℕ) (q : F) → Called g p (x, tt) false q → (q ≡ p) × (false ≡ holds (f x)))
+    → s.start ≡ 0 → r ≡ holds (lowest f s.end <? s.end)
+any_lowest f s u p r ran held failed z =
+    by r (cases_from_any u p r (λ k. true ≡ holds (f k)) (λ k. false ≡ holds (f k)) ran (YieldsList-from_range 0 s.end s.end (ap (λ (a : ℕ). record { start = a; end = s.end }) z) (omega arith)) held failed)
+  where
+    all : List ℕ
+    all = range_with_len 0 s.end
+
+    at : (k : ℕ) → k < s.end → get_or all k 0 ≡ k
+    at k l = omega (arith, get_or-range_with_len 0 s.end k 0 l)
+
+    by : (b : Bool) → MatchBool b ((k : ℕ) × (k < length all) × HoldsAt (λ k. true ≡ holds (f k)) all k) (AllWithin (λ k. false ≡ holds (f k)) all 0 (length all))
+        → b ≡ holds (lowest f s.end <? s.end)
+    by true h =
+        let l : h.0 < s.end = omega (arith, length-range_with_len 0 s.end, h.1) in
+        says true (lowest f s.end <? s.end) (some_fails f s.end h.0 l (said true (f h.0) (subst (λ (k : ℕ). true ≡ holds (f k)) (at h.0 l) (h.2 0))))
+    by false h =
+        says false (lowest f s.end <? s.end)
+        (omega (arith, none_fails f s.end (λ k l. said false (f k) (subst (λ (k : ℕ). false ≡ holds (f k)) (at k l) (h k 0 (omega arith) (omega (arith, length-range_with_len 0 s.end)))))))

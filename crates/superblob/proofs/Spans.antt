@@ -1,54 +1,58 @@
 -- Where a blob lies: nowhere where tests 1 to 9 refuse or the type is missing, else at its entry's offset, for its own length.
 use Prim.Native.Nat.{ℕ, ◌+◌, ◌<◌, ◌≤◌}
+use mathlib.Core.Bool.{true, false}
 use mathlib.Core.List.{List}
 use mathlib.Core.Path.{◌≡◌, refl, sym, ap, ◌∙◌}
 use native.Mathlib.Omega.{arith}
+use Rattle.std.specs.Prelude.{Result, None, Some}
+use Rattle.std.specs.Result.{is_ok}
+use Rattle.refusals.specs.declared.refusal.Refusal.{Refusal}
 use Rattle.refusals.specs.declared.Answer.{Answer}
-use Rattle.refusals.specs.Refusals.{first, accepted}
+use Rattle.refusals.specs.Refusals.{Says, first, accepted}
+use Rattle.refusals.specs.Named.{test_answer}
 use Rattle.refusals.proofs.Exact.{passed}
-use Rattle.refusals.proofs.Conditions.{pick_yes, pick_no}
+use Rattle.refusals.proofs.Conditions.{says, pick_yes, pick_no}
+use Rattle.refusals.proofs.Results.{ok_accepts, err_refuses}
 use Rattle.layout.specs.SuperBlob.{count, offset_at, blob_length}
-use Rattle.superblob.specs.declared.Span.{Span}
-use Rattle.superblob.specs.Rows.{rows, position, has, present, blob_start, blob_end, Found}
+use Rattle.superblob.specs.Rows.{rows, position, has, present, blob_start, blob_end, Located}
 use Rattle.superblob.proofs.Formed.{formed}
 use Rattle.superblob.proofs.Numbers.{rows_unused}
 
-abbrev span : ℕ → ℕ → Span
-span start end = record { start = start; end = end }
+module _ (s : List ℕ) (t : ℕ) where
+  span_absent : Says false (present s t) → Located s t None
+  unfolding blob_start blob_end
+  span_absent none =
+      record {
+        found = record {
+          start_is = pick_no _ _ _ _ none refl;
+          end_is = pick_no _ _ _ _ none refl;
+          ordered = omega arith;
+          within = omega arith;
+        };
+        there = says false (present s t) none;
+      }
 
-passing : (s : List ℕ) (a : Answer) → a ≡ first (rows 0 s) accepted → a.number ≡ 0 → (first (rows 0 s) accepted).number ≡ 0
-passing s a e z = sym (ap (λ (a : Answer). a.number) e) ∙ z
+  pub span_missing : (i n : ℕ) → i ≡ position s t → n ≡ count s → n ≤ i → Located s t None
+  unfolding present has
+  span_missing i n e f h = span_absent (λ z. omega arith)
 
-pub span_refused : (s : List ℕ) (t : ℕ) (a : Answer) → a ≡ first (rows 0 s) accepted → (a.number ≡ 0 → ⊥) → Found s t (span 0 0)
-unfolding blob_start blob_end present has
-span_refused s t a e ne =
-    let none : (first (rows 0 s) accepted).number ≡ 0 → count s ≤ position s t = λ z. absurd (ne (ap (λ (x : Answer). x.number) e ∙ z)) in
-    record {
-      start_is = pick_no _ _ _ _ none refl;
-      end_is = pick_no _ _ _ _ none refl;
-      ordered = omega arith;
-      within = omega arith;
-    }
+  module _ (r : Result Unit Refusal) (e : test_answer r ≡ first (rows 0 s) accepted) where
+    pub span_refused : false ≡ is_ok r → Located s t None
+    unfolding present has
+    span_refused ne = span_absent (λ z. absurd (err_refuses r ne (ap (λ (a : Answer). a.number) e ∙ z)))
 
-pub span_missing : (s : List ℕ) (t i n : ℕ) → i ≡ position s t → n ≡ count s → n ≤ i → Found s t (span 0 0)
-unfolding blob_start blob_end present has
-span_missing s t i n e f h =
-    record {
-      start_is = pick_no _ _ _ _ (λ z. omega arith) refl;
-      end_is = pick_no _ _ _ _ (λ z. omega arith) refl;
-      ordered = omega arith;
-      within = omega arith;
-    }
-
-pub span_found : (s : List ℕ) (t : ℕ) (a : Answer) (i n start size : ℕ) → a ≡ first (rows 0 s) accepted → a.number ≡ 0
-    → i ≡ position s t → n ≡ count s → i < n → start ≡ offset_at s i → size ≡ blob_length s i → Found s t (span start (start + size))
-unfolding blob_start blob_end present has
-span_found s t a i n start size e z p q h o l =
-    let w = passing s a e z in
-    let b = formed 0 s (passed (rows 0 s) accepted 0 (rows_unused 0 s) w) in
-    record {
-      start_is = pick_yes _ _ _ _ (w, omega arith) (cc);
-      end_is = pick_yes _ _ _ _ (w, omega arith) (cc);
-      ordered = omega arith;
-      within = omega (arith, b.lent, b.inside i (omega arith));
-    }
+    pub span_found : true ≡ is_ok r → (i n start size : ℕ) → i ≡ position s t → n ≡ count s → i < n
+        → start ≡ offset_at s i → size ≡ blob_length s i → Located s t (Some (record { start = start; end = start + size }))
+    unfolding blob_start blob_end present has
+    span_found ok i n start size p q h o l =
+        let w = sym (ap (λ (a : Answer). a.number) e) ∙ ok_accepts r ok in
+        let b = formed 0 s (passed (rows 0 s) accepted 0 (rows_unused 0 s) w) in
+        record {
+          found = record {
+            start_is = pick_yes _ _ _ _ (w, omega arith) (cc);
+            end_is = pick_yes _ _ _ _ (w, omega arith) (cc);
+            ordered = omega arith;
+            within = omega (arith, b.lent, b.inside i (omega arith));
+          };
+          there = says true (present s t) (w, omega arith);
+        }

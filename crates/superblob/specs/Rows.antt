@@ -1,15 +1,12 @@
 -- Tests 1 to 9 of document 01, and the lookup of a blob. `s` is the lent signature, and `side` the length of the longest side file
 -- that is there, 0 where none is.
-use Rattle.std.specs.Prelude.{ℕ, ◌+◌, ◌-◌, ◌≤◌, List, [], ◌∷◌, ◌++◌, ◌≡◌, length, take, drop}
+use Rattle.std.specs.Prelude.{ℕ, Option, MatchOption, ◌+◌, ◌-◌, ◌≤◌, List, [], ◌∷◌, ◌++◌, ◌≡◌, length, take, drop}
+use Rattle.std.specs.Option.{is_some}
+use Rattle.std.specs.declared.ops.Range.{Range as Span}
 use Rattle.refusals.specs.Ranges.{Range, range, lookup}
-use Rattle.refusals.specs.Refusals.{◌<?◌, ◌≡?◌, ◌≢?◌, ◌and◌, ◌or◌, Cond, pick, lowest, Row, row, over, first, accepted}
+use Rattle.refusals.specs.Refusals.{◌<?◌, ◌≡?◌, ◌≢?◌, ◌and◌, ◌or◌, Cond, holds, pick, lowest, Row, row, over, first, accepted}
 use Rattle.layout.specs.SuperBlob.{super_magic, super_head, blob_head, requirements_magic, entitlements_magic, der_entitlements_magic, launch_constraint_magic, blob_wrapper_magic, first_alternate, last_alternate, cms_type, magic, super_length, count, index_end, type_at, offset_at, blob_magic, blob_length}
 use Rattle.layout.specs.CodeDirectory.{directory_magic, directory_type}
-use Rattle.superblob.specs.declared.Span.{Span}
-use Rattle.superblob.specs.declared.Test.{Test}
-use Rattle.superblob.specs.declared.Test.TheVariants as test
-use Rattle.superblob.specs.declared.Clash.{Clash}
-use Rattle.superblob.specs.declared.Clash.TheVariants as clash
 
 -- LIMITS
 
@@ -136,23 +133,18 @@ blob_end s t = pick (present s t) (start_of s t + blob_length s (position s t)) 
 unfoldable pub blob : List ℕ → ℕ → List ℕ
 blob s t = take (blob_end s t - blob_start s t) (drop (blob_start s t) s)
 
--- FOR THE CODE
-
--- what fails at a position, by the test
-abbrev pub failing : Test → List ℕ → ℕ → Cond
-failing test.Known s = unknown s
-failing test.Distinct s = repeated s
-failing test.Inside s = outside s
-failing test.Magic s = wrong_magic s
-failing test.Apart s = overlaps s
-
--- what two positions may not share
-abbrev pub clashing : Clash → List ℕ → ℕ → ℕ → Cond
-clashing clash.SlotType s = same_type s
-clashing clash.Bytes s = shared s
-
-pub record Found (s : List ℕ) (t : ℕ) (r : Span) : Type 0 where
+-- where it lies, as the code says it
+pub record Found (s : List ℕ) (t : ℕ) (r : Span ℕ) : Type 0 where
   pub start_is : r.start ≡ blob_start s t
   pub end_is : r.end ≡ blob_end s t
   pub ordered : r.start ≤ r.end
   pub within : r.end ≤ length s
+
+-- where there is none
+abbrev pub nowhere : Span ℕ
+nowhere = record { start = 0; end = 0 }
+
+-- what the lookup of the code says: where the blob lies exactly where there is one
+pub record Located (s : List ℕ) (t : ℕ) (r : Option (Span ℕ)) : Type 0 where
+  pub found : MatchOption r (Found s t nowhere) (Found s t)
+  pub there : is_some r ≡ holds (present s t)

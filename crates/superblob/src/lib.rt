@@ -7,15 +7,16 @@
 #![tactic(auto)]
 
 ghost use Rattle.std.specs.Prelude.{◌≡◌, ◌<◌};
-ghost use Rattle.refusals.specs.Refusals.{holds, lowest, first, accepted};
+ghost use Rattle.refusals.specs.Refusals.{holds, first, accepted};
 ghost use Rattle.refusals.specs.Named.{test_answer};
-ghost use Rattle.layout.specs.SuperBlob.{index_end, type_at, offset_at, blob_magic, blob_length, count};
-ghost use Rattle.superblob.specs.Rows.{magic_of, outside, shared, clashing, failing, head_rows, index_rows, rows, position, has, start_of, blob_of, Found, blob};
+ghost use Rattle.layout.specs.SuperBlob.{index_end, type_at, offset_at, blob_magic, blob_length};
+ghost use Rattle.superblob.specs.Rows.{magic_of, repeated, outside, shared, overlaps, head_rows, index_rows, rows, position, has, start_of, blob_of, Located, blob};
 
 use layout::directory::CodeDirectory;
 use layout::parts::part;
 use layout::superblob::{Blob, BlobIndex, SuperBlob};
 use refusals::Refusal;
+use std::ops::Range;
 
 // The longest signature that is read.
 const MOST_SIGNATURE: usize = 67108864;
@@ -34,39 +35,27 @@ pub fn tested(sig: &[u8], side: usize) -> Result<(), Refusal>
     index_tested(sig)
 }
 
-// Where a blob lies in the signature: from `start` up to `end`.
-#[derive(Clone, Copy)]
-pub struct Span {
-    pub start: usize,
-    pub end: usize,
-}
-
-// Where the blob of a type lies; 0 and 0 where tests 1 to 9 do not pass or the index has no such type.
-pub fn find_span(sig: &[u8], slot_type: u32) -> Span
-    ensures { Found sig.now slot_type result }
+// Where the blob of a type lies in the signature; nothing where tests 1 to 9 do not pass or the index has no such type.
+pub fn find_span(sig: &[u8], slot_type: u32) -> Option<Range<usize>>
+    ensures { Located sig.now slot_type result }
 {
-    let Ok(()) = tested(sig, 0) else {
-        return Span { start: 0, end: 0 };
-    };
+    tested(sig, 0).ok()?;
     let i = position_of(sig, slot_type as usize);
     if SuperBlob::read(sig).count <= i {
-        return Span { start: 0, end: 0 };
+        return None;
     }
     let start = offset_at(sig, i);
-    Span {
-        start,
-        end: start + length_at(sig, i),
-    }
+    Some(start..start + length_at(sig, i))
 }
 
 // The blob of a type, its head included; empty where tests 1 to 9 do not pass or the index has no such type.
 pub fn find<'a>(sig: &'a [u8], slot_type: u32) -> &'a [u8]
     ensures { result.now ≡ blob sig.now slot_type }
 {
-    let span = find_span(sig, slot_type);
-    let start = span.start;
-    let end = span.end;
-    &sig[start..end]
+    match find_span(sig, slot_type) {
+        Some(span) => &sig[span],
+        None => &[],
+    }
 }
 
 // The index has the type.
@@ -128,141 +117,66 @@ fn index_tested(sig: &[u8]) -> Result<(), Refusal>
     ensures { test_answer result ≡ first (index_rows sig.now) accepted }
 {
     let n = SuperBlob::read(sig).count;
-    let unknown = first_failing(sig, Test::Known);
-    if unknown < n {
-        return Err(Refusal::UnknownType(unknown));
+    if let Some(i) = (0..n).find(|&i| magic_of(type_at(sig, i)) == 0) {
+        return Err(Refusal::UnknownType(i));
     }
-    let repeated = first_failing(sig, Test::Distinct);
-    if repeated < n {
-        return Err(Refusal::RepeatedType(repeated));
+    if let Some(i) = (0..n).find(|&i| repeats_type(sig, i)) {
+        return Err(Refusal::RepeatedType(i));
     }
-    let outside = first_failing(sig, Test::Inside);
-    if outside < n {
-        return Err(Refusal::BlobOutside(outside));
+    if let Some(i) = (0..n).find(|&i| lies_outside(sig, i)) {
+        return Err(Refusal::BlobOutside(i));
     }
-    let wrong = first_failing(sig, Test::Magic);
-    if wrong < n {
-        return Err(Refusal::BlobMagic(wrong));
+    if let Some(i) = (0..n).find(|&i| magic_at(sig, i) != magic_of(type_at(sig, i))) {
+        return Err(Refusal::BlobMagic(i));
     }
-    let overlapping = first_failing(sig, Test::Apart);
-    if overlapping < n {
-        return Err(Refusal::BlobsOverlap(overlapping));
+    if let Some(i) = (0..n).find(|&i| overlaps_earlier(sig, i)) {
+        return Err(Refusal::BlobsOverlap(i));
     }
     Ok(())
 }
 
-// A test over the positions of the index.
-#[derive(Clone, Copy)]
-enum Test {
-    Known,
-    Distinct,
-    Inside,
-    Magic,
-    Apart,
-}
-
-// The lowest position at which the test fails; the count where there is none.
-fn first_failing(sig: &[u8], test: Test) -> usize
-    ensures { result ≡ lowest (failing test sig.now) (count sig.now) }
+// The type at i stands at an earlier position too.
+fn repeats_type(sig: &[u8], i: usize) -> bool
+    ensures { result ≡ holds (repeated sig.now i) }
 {
-    let n = SuperBlob::read(sig).count;
-    let mut i = 0;
-    while i < n {
-        if fails_at(sig, i, test) {
-            return i;
-        }
-        i += 1;
-    }
-    i
+    (0..i).any(|j| type_at(sig, j) == type_at(sig, i))
 }
 
-fn fails_at(sig: &[u8], i: usize, test: Test) -> bool
-    ensures { result ≡ holds (failing test sig.now i) }
+// The blob at i shares a byte with one at an earlier position.
+fn overlaps_earlier(sig: &[u8], i: usize) -> bool
+    ensures { result ≡ holds (overlaps sig.now i) }
 {
-    match test {
-        Test::Known => magic_of(type_at(sig, i)) == 0,
-        Test::Distinct => first_clash(sig, i, Clash::SlotType) < i,
-        Test::Inside => outside_at(sig, i),
-        Test::Magic => magic_at(sig, i) != magic_of(type_at(sig, i)),
-        Test::Apart => first_clash(sig, i, Clash::Bytes) < i,
-    }
+    (0..i).any(|j| shares_byte(sig, i, j))
 }
 
-// What two positions of the index may not share.
-#[derive(Clone, Copy)]
-enum Clash {
-    SlotType,
-    Bytes,
-}
-
-// The lowest position before i that clashes with i; i where there is none.
-fn first_clash(sig: &[u8], i: usize, clash: Clash) -> usize
-    ensures { result ≡ lowest (clashing clash sig.now i) i }
-{
-    let mut j = 0;
-    while j < i {
-        if clashes(sig, i, j, clash) {
-            return j;
-        }
-        j += 1;
-    }
-    j
-}
-
-fn clashes(sig: &[u8], i: usize, j: usize, clash: Clash) -> bool
-    ensures { result ≡ holds (clashing clash sig.now i j) }
-{
-    match clash {
-        Clash::SlotType => type_at(sig, j) == type_at(sig, i),
-        Clash::Bytes => shares_byte(sig, i, j),
-    }
-}
-
-// The blobs at i and j have a byte in common: neither ends before the other starts.
+// The blobs at i and j have a byte in common: each starts before the other ends.
 fn shares_byte(sig: &[u8], i: usize, j: usize) -> bool
     ensures { result ≡ holds (shared sig.now i j) }
 {
     let a = offset_at(sig, i);
     let b = offset_at(sig, j);
-    if b + length_at(sig, j) <= a {
-        return false;
-    }
-    if a + length_at(sig, i) <= b {
-        return false;
-    }
-    true
+    a < b + length_at(sig, j) && b < a + length_at(sig, i)
 }
 
 // The blob at i starts in the index, or its head or the blob reaches past the SuperBlob, or it is shorter than its head.
-fn outside_at(sig: &[u8], i: usize) -> bool
+fn lies_outside(sig: &[u8], i: usize) -> bool
     ensures { result ≡ holds (outside sig.now i) }
 {
     let size = SuperBlob::read(sig).length;
     let offset = offset_at(sig, i);
-    if offset < index_end(sig) {
-        return true;
-    }
-    if size < offset + Blob::HEAD {
-        return true;
-    }
     let length = length_at(sig, i);
-    if length < Blob::HEAD {
-        return true;
-    }
-    if size < offset + length {
-        return true;
-    }
-    false
+    offset < index_end(sig)
+        || size < offset + Blob::HEAD
+        || size < offset + length
+        || length < Blob::HEAD
 }
 
-// The lowest position that has the type; the count where there is none.
+// The lowest position that has the type; the count where there is none, whose entry `start_of` and `blob_of` then read.
 fn position_of(sig: &[u8], slot_type: usize) -> usize
     ensures { result ≡ position sig.now slot_type }
 {
     let n = SuperBlob::read(sig).count;
-    (0..n)
-        .find(|i| type_at(sig, *i) == slot_type)
-        .unwrap_or(n)
+    (0..n).find(|&i| type_at(sig, i) == slot_type).unwrap_or(n)
 }
 
 // The magic that a slot type asks for; 0 where the type is not known.

@@ -1,38 +1,21 @@
+-- Each command starts where the one before ends. Where the test answers as f holds, the first at which it holds is the lowest.
+use mathlib.Core.Bool.{true, false}
+use mathlib.Core.Path.{refl}
 use native.Mathlib.Omega.{arith}
-use Rattle.refusals.proofs.Positions.{lowest_none, lowest_more, lowest_stop, lowest_end}
+use Rattle.refusals.proofs.Positions.{lowest_none, lowest_more, lowest_stop}
 use Rattle.macho.proofs.Commands.{starts_behind, starts_next}
-use borrow.Author.Rules.{rules}
 use Rattle.macho.proofs.first_command.Goals as goal
 
-pub loop-i-init : goal.loop-i-init
-loop-i-init c = (omega arith, omega arith, starts_behind _ _ (omega arith), omega arith, lowest_none _)
+pub loop-index-init : goal.loop-index-init
+loop-index-init g c = (starts_behind _ _ refl, omega arith, λ f h. lowest_none f)
 
-pub fails_at-requires : goal.fails_at-requires
-fails_at-requires c = record { at_is = search rules; at_most = omega arith }
+pub returns-then-test : goal.returns-then-test
+returns-then-test g c =
+    λ f h. (omega arith, lowest_stop f _ _ (omega arith) (c.loop-index.invariant.2 f h) (h _ true refl c.if-test.ensures), c.loop-index.invariant.0)
 
-pub returns-then-fails_at : goal.returns-then-fails_at
-returns-then-fails_at c = record {
-  index_is = lowest_stop _ _ _ (omega arith) (cc) (cc);
-  stands = record { at_is = search rules; at_most = omega arith };
-}
-
-pub size_of-at-requires : goal.size_of-at-requires
-size_of-at-requires c = record { at_is = search rules; at_most = omega arith }
-
-pub overflow_add-at : goal.overflow_add-at
-overflow_add-at c = omega arith
-
-pub overflow_add-i : goal.overflow_add-i
-overflow_add-i c = omega arith
-
-pub loop-i-smaller : goal.loop-i-smaller
-loop-i-smaller c = omega arith
-
-pub loop-i-preserved : goal.loop-i-preserved
-loop-i-preserved c = (omega arith, omega arith, starts_next _ _ _ _ (search rules) (search rules), omega arith, lowest_more _ _ (cc) (cc))
-
-pub returns : goal.returns
-returns c = record {
-  index_is = lowest_end _ _ _ (omega arith) (cc);
-  stands = record { at_is = search rules; at_most = omega arith };
-}
+pub loop-index-preserved : goal.loop-index-preserved
+loop-index-preserved g c = (
+  starts_next _ _ _ _ c.loop-index.invariant.0 c.size-at.ensures.0,
+  omega arith,
+  λ f h. lowest_more f _ (c.loop-index.invariant.2 f h) (h _ false refl c.if-test.ensures),
+)

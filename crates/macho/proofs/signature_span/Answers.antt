@@ -1,16 +1,16 @@
--- By what is known at each return: the answer of tests 36 to 40, and the command that names the signature.
-use native.Mathlib.Omega.{arith}
-use Rattle.macho.specs.Rows.{signature_command}
-use Rattle.macho.proofs.Parts.{span_refused, few, span_found}
+-- Tests 36 and 37, and where they pass 38 to 40.
+use Rattle.std.proofs.lemmas.Result.{err_from_is_err_and}
+use Rattle.macho.proofs.Parts.{commands_refused, span_found}
+use Rattle.macho.proofs.Table.{few_commands}
 use Rattle.macho.proofs.signature_span.Goals as goal
 
-pub returns-then-tested-ne0 : goal.returns-then-tested-ne0
-returns-then-tested-ne0 c = span_refused _ _ c.tested.ensures (omega arith)
+pub returns-in_err-commands_tested : goal.returns-in_err-commands_tested
+returns-in_err-commands_tested c =
+    let p = err_from_is_err_and c.from_residual.result c.from_residual.ensures.1 in
+    rw (p.1, p.2) (commands_refused _ _ c.in_err-commands_tested.ensures)
 
-pub first_command-signature-requires : goal.first_command-signature-requires
-first_command-signature-requires c = few _ _ c.tested.ensures (omega arith)
+pub span_tested-requires : goal.span_tested-requires
+span_tested-requires c = few_commands _ c.in_ok-commands_tested.ensures
 
 pub returns : goal.returns
-unfolding signature_command
-returns c = span_found _ _ _ _ _ c.tested.ensures (omega arith) c.first_command-signature.ensures.index_is
-    c.data_of-data.ensures.dataoff_is c.data_of-data.ensures.datasize_is
+returns c = span_found _ c.in_ok-commands_tested.ensures _ c.span_tested.ensures

@@ -1,6 +1,5 @@
 -- Tests 1 to 4, and where they pass 5 to 9.
 use Rattle.std.proofs.lemmas.Result.{err_from_is_err_and}
-use Rattle.refusals.specs.Refusals.{accepted}
 use Rattle.refusals.proofs.Results.{err_stops, ok_goes}
 use Rattle.superblob.specs.Rows.{head_rows, index_rows, rows}
 use Rattle.superblob.proofs.Numbers.{head_rows_unused}

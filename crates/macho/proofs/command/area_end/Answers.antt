@@ -1,7 +1,7 @@
 -- The area stands behind the header.
 use native.Mathlib.Omega.{arith}
 use Rattle.macho.specs.Rows.{area_end}
-use Rattle.macho.proofs.area_end.Goals as goal
+use Rattle.macho.proofs.command.area_end.Goals as goal
 
 pub returns : goal.returns
 unfolding area_end
