@@ -2,7 +2,7 @@
 // and each field: its number (1 byte, below 16), its start in the arena (4 bytes, big-endian), and an item. The item is expanded into
 // the arena at that start, and the field is the part of the arena that it fills. A field that a case does not name stays as the cases
 // before it left it, and fields may share bytes.
-ghost use Rattle.std.specs.Prelude.{◌<◌, ◌≤◌, length, IfSome};
+ghost use Rattle.std.specs.Prelude.{◌≡◌, ◌<◌, ◌≤◌, length, replicate, IfSome};
 
 use crate::items::expand;
 
@@ -47,7 +47,10 @@ pub struct Arena<'a> {
 
 impl<'a> Arena<'a> {
     // An arena whose fields have no bytes yet.
-    pub fn new(bytes: &'a mut [u8]) -> Self {
+    pub fn new(bytes: &'a mut [u8]) -> Self
+        ensures bytes { result.bytes.now ≡ bytes.old }
+        ensures places { result.places ≡ replicate FIELDS (record { start = 0; length = 0 }) }
+    {
         let nowhere = Place {
             start: 0,
             length: 0,
