@@ -7,7 +7,8 @@ use denote.Triple.Clauses.{AtExit}
 use borrow.Fn.World.{ArgsD, ResD}
 use borrow.Fn.Kinds.{ended_of}
 use lib.ListN.{length, take}
-use Rattle.admit_run.specs.Small.{file_of, small_line, Said}
+use Rattle.std.specs.Option.{option_copied}
+use Rattle.admit_run.specs.Small.{judged_file, small_line, Said}
 use Rattle.admit_run.specs.Text.{Text}
 use Rattle.admit_run.proofs.answer.Reads as answer-reads
 use Rattle.admit_run.proofs.answer.Kinds as answer-kinds
@@ -16,11 +17,11 @@ use Rattle.admit_run.proofs.line_of.Kinds as line-kinds
 use Rattle.admit_run.proofs.text.put_line.Reads as text-reads
 use Rattle.admit_run.proofs.text.put_line.Kinds as text-kinds
 
--- arguments in order: whether the signature is there, its bytes, the same of the image and of the cache, the marks
+-- arguments in order: the signature's bytes where it is there, the same of the image and of the cache, the marks
 module _ (κs : Lfts 4) (a : ArgsD Rattle.admit_run.specs.contracts.line_of.signature κs) where
   pub line_says : (r : ResD Rattle.admit_run.specs.contracts.line_of.signature κs) (e : AtExit (ended_of 4 line-kinds.ps line-kinds.r) κs)
       → line-reads.Learnt κs a r e
-      → r ≡ small_line (file_of 16384 a.0 a.1.0.now) (file_of 32768 a.1.1.0 a.1.1.1.0.now) (file_of 16384 a.1.1.1.1.0 a.1.1.1.1.1.0.now)
+      → r ≡ small_line (judged_file 16384 (option_copied a.0)) (judged_file 32768 (option_copied a.1.0)) (judged_file 16384 (option_copied a.1.1.0))
   line_says r e h = h
 
 -- arguments in order: the line, the buffer

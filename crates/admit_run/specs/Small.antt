@@ -1,6 +1,7 @@
 -- Document 01's small program: what it says of three files. The first that is missing or too long decides; else it is a whole check with
 -- no side files, all launch facts false or 0, and as many marks as test 20 wants.
-use Rattle.std.specs.Prelude.{ℕ, Bool, true, false, cond, List, [], ◌≡◌, length, take, ltb}
+use Rattle.std.specs.Prelude.{ℕ, Bool, true, false, cond, List, [], ◌≡◌, length, take, ltb, Option, Some, None, Result, Ok, Err}
+use Rattle.std.specs.Borrow.{Bor}
 use Rattle.refusals.specs.Refusals.{◌≡?◌, pick, accepted, first}
 use Rattle.layout.specs.CodeDirectory.{n_code_slots}
 use Rattle.directory.specs.Rows.{directory, signature_rows}
@@ -8,8 +9,8 @@ use Rattle.trustcache.specs.declared.launch.Launch.{Launch}
 use Rattle.admission.specs.declared.Verdict.{Verdict}
 use Rattle.admission.specs.Input.{Lent, lent}
 use Rattle.admission.specs.Check.{check_answer, verdict_of}
-use Rattle.admit_run.specs.declared.Line.{Line}
-use Rattle.admit_run.specs.declared.Line.TheVariants.{NoFile, TooLong, Answered}
+use Rattle.admit_run.specs.declared.FileError.{FileError}
+use Rattle.admit_run.specs.declared.FileError.TheVariants.{NoFile, TooLong}
 
 abbrev pub no_facts : Launch
 no_facts =
@@ -51,15 +52,30 @@ unfoldable pub file_of : ℕ → Bool → List ℕ → File
 file_of most false bytes = missing
 file_of most true bytes = cond (ltb most (length bytes)) long (has bytes)
 
+-- the same of the bytes that were read, nothing where the file is not there
+abbrev pub judged_file : ℕ → Option (List ℕ) → File
+judged_file most None = file_of most false []
+judged_file most (Some bytes) = file_of most true bytes
+
+-- what a file's bytes, or what is wrong with it, say of it
+abbrev pub outcome : Result (Bor (List ℕ)) FileError → File
+outcome (Ok bytes) = has bytes.now
+outcome (Err NoFile) = missing
+outcome (Err TooLong) = long
+
+-- what the program says: the verdict, or what is wrong with a file
+abbrev pub Line : Type 0
+Line = Result Verdict FileError
+
 -- what is said of a file, and of the rest where it has bytes
 unfoldable pub judged : File → (List ℕ → Line) → Line
-judged missing rest = NoFile
-judged long rest = TooLong
+judged missing rest = Err NoFile
+judged long rest = Err TooLong
 judged (has bytes) rest = rest bytes
 
 unfoldable pub small_line : File → File → File → Line
 small_line signature image cache =
-    judged signature (λ s. judged image (λ i. judged cache (λ c. Answered (small_verdict s i c))))
+    judged signature (λ s. judged image (λ i. judged cache (λ c. Ok (small_verdict s i c))))
 
 -- the line is said of the first bytes of three buffers, each with whether its file was there; what a file holds no contract knows
 pub record SaidIn (signature image cache : List ℕ) (line : Line) : Type 0 where

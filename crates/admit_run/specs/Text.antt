@@ -1,9 +1,9 @@
 -- What the small program prints: `no file`, `too long`, or number, space, place; each with a newline. Bytes are ASCII.
-use Rattle.std.specs.Prelude.{ℕ, ◌≡◌, List, [], ◌∷◌, ◌++◌, take}
+use Rattle.std.specs.Prelude.{ℕ, ◌≡◌, List, [], ◌∷◌, ◌++◌, take, Ok, Err}
 use Rattle.io.specs.Digits.{last_digits, IsDigitCount}
 use Rattle.admission.specs.declared.Verdict.{Verdict}
-use Rattle.admit_run.specs.declared.Line.{Line}
-use Rattle.admit_run.specs.declared.Line.TheVariants.{NoFile, TooLong, Answered}
+use Rattle.admit_run.specs.declared.FileError.TheVariants.{NoFile, TooLong}
+use Rattle.admit_run.specs.Small.{Line}
 
 -- the most digits of a number of 64 bits, and the most bytes of a line: two numbers, a space and a newline
 abbrev pub most_digits : ℕ
@@ -35,9 +35,9 @@ abbrev pub too_long_text : List ℕ
 too_long_text = 116 ∷ 111 ∷ 111 ∷ 32 ∷ 108 ∷ 111 ∷ 110 ∷ 103 ∷ 10 ∷ []
 
 unfoldable pub Text : Line → List ℕ → Type 0
-Text NoFile bytes = bytes ≡ no_file_text
-Text TooLong bytes = bytes ≡ too_long_text
-Text (Answered v) bytes = NumberAndPlace v bytes
+Text (Err NoFile) bytes = bytes ≡ no_file_text
+Text (Err TooLong) bytes = bytes ≡ too_long_text
+Text (Ok v) bytes = NumberAndPlace v bytes
 
 -- a number was written behind the first `at` bytes
 pub record WroteNumber (n : ℕ) (before : List ℕ) (at : ℕ) (after : List ℕ) (next : ℕ) : Type 0 where

@@ -6,9 +6,9 @@
 mod files;
 mod text;
 
-ghost use Rattle.std.specs.Prelude.{◌≡◌, ◌<◌, ◌≤◌, length, IfSome};
-ghost use Rattle.io.specs.Counts.{IsPrefixLen};
-ghost use Rattle.admit_run.specs.Small.{most_signature_file, most_image_file, most_cache_file, file_of, small_line, marks_wanted, small_verdict, SaidIn, Said};
+ghost use Rattle.std.specs.Prelude.{◌≡◌, ◌<◌, ◌≤◌, length, take, IfSome, IfOk};
+ghost use Rattle.std.specs.Option.{ForSome, option_copied, option_map};
+ghost use Rattle.admit_run.specs.Small.{most_signature_file, most_image_file, most_cache_file, judged_file, outcome, small_line, marks_wanted, small_verdict, SaidIn, Said};
 
 use admission::Verdict;
 use files::load;
@@ -41,46 +41,41 @@ const NAME_ROOM: usize = 4096;
 
 const LINE_ROOM: usize = 42;
 
-// What the program says: that a file is not there, that one is too long, or the verdict.
-#[derive(Clone, Copy)]
-pub enum Line {
+// What is wrong with a file: it is not there, or it is too long.
+#[derive(Clone, Copy, Debug, PartialEq, Eq)]
+pub enum FileError {
     NoFile,
     TooLong,
-    Answered(Verdict),
 }
 
-// What is said of three files, each with whether it was there and its bytes. The first that is missing or too long decides.
-fn line_of(
-    signature_there: bool,
-    signature: &[u8],
-    image_there: bool,
-    image: &[u8],
-    cache_there: bool,
-    cache: &[u8],
-    marks: &mut [u8],
-) -> Line
-    requires { most_signature_file ≤ length marks.old }
-    ensures { result ≡ small_line (file_of most_signature_file signature_there signature.now) (file_of most_image_file image_there image.now) (file_of most_cache_file cache_there cache.now) }
+// The bytes of a file that is there and has at most so many.
+#[tactic(auto, unfolding(crate::specs::Small::file_of))]
+fn within(file: Option<&[u8]>, most: usize) -> Result<&[u8], FileError>
+    ensures upper_bound { IfOk result (λ bytes. length bytes.now ≤ most) }
+    ensures outcome { outcome result ≡ judged_file most (option_copied file.entry) }
 {
-    if !signature_there {
-        return Line::NoFile;
+    match file {
+        None => Err(FileError::NoFile),
+        Some(bytes) if most < bytes.len() => Err(FileError::TooLong),
+        Some(bytes) => Ok(bytes),
     }
-    if SIGNATURE_MOST < signature.len() {
-        return Line::TooLong;
-    }
-    if !image_there {
-        return Line::NoFile;
-    }
-    if IMAGE_MOST < image.len() {
-        return Line::TooLong;
-    }
-    if !cache_there {
-        return Line::NoFile;
-    }
-    if CACHE_MOST < cache.len() {
-        return Line::TooLong;
-    }
-    Line::Answered(admit(signature, image, cache, marks))
+}
+
+// What is said of three files, each with its bytes where it was there: the verdict, or what is wrong with the first that is missing or too
+// long.
+fn line_of(
+    signature: Option<&[u8]>,
+    image: Option<&[u8]>,
+    cache: Option<&[u8]>,
+    marks: &mut [u8],
+) -> Result<Verdict, FileError>
+    requires { most_signature_file ≤ length marks.old }
+    ensures { result ≡ small_line (judged_file most_signature_file (option_copied signature.entry)) (judged_file most_image_file (option_copied image.entry)) (judged_file most_cache_file (option_copied cache.entry)) }
+{
+    let signature = within(signature, SIGNATURE_MOST)?;
+    let image = within(image, IMAGE_MOST)?;
+    let cache = within(cache, CACHE_MOST)?;
+    Ok(admit(signature, image, cache, marks))
 }
 
 // The whole check of three files.
@@ -119,6 +114,14 @@ fn marks_wanted(signature: &[u8]) -> usize
     CodeDirectory::read(superblob::blob_of(signature, CodeDirectory::TYPE)).code_slots
 }
 
+// The bytes at the start of a buffer that a file was read into, where it was there.
+fn read_part(buffer: &[u8], read: Option<usize>) -> Option<&[u8]>
+    requires { ForSome read (λ n. n ≤ length buffer.now) }
+    ensures { option_copied result ≡ option_map (λ n. take n buffer.now) read }
+{
+    Some(&buffer[..read?])
+}
+
 // What is said of the files of three names, which are read into the buffers.
 fn read_and_say(
     files: &impl Files,
@@ -129,7 +132,7 @@ fn read_and_say(
     cache_name: &[u8],
     cache: &mut [u8],
     marks: &mut [u8],
-) -> Line
+) -> Result<Verdict, FileError>
     requires files_have_room { (most_signature_file < length signature.old) × (most_image_file < length image.old) × (most_cache_file < length cache.old) }
     requires marks_have_room { most_signature_file ≤ length marks.old }
     ensures { SaidIn signature.new image.new cache.new result }
@@ -137,22 +140,21 @@ fn read_and_say(
     let first = load(files, signature_name, signature);
     let second = load(files, image_name, image);
     let third = load(files, cache_name, cache);
-    let a = first.length;
-    let b = second.length;
-    let c = third.length;
     line_of(
-        first.there,
-        &signature[0..a],
-        second.there,
-        &image[0..b],
-        third.there,
-        &cache[0..c],
+        read_part(signature, first),
+        read_part(image, second),
+        read_part(cache, third),
         marks,
     )
 }
 
 // What the program says of the files of three names.
-pub fn answer(rt: &HostRuntime, signature_name: &[u8], image_name: &[u8], cache_name: &[u8]) -> Line
+pub fn answer(
+    rt: &HostRuntime,
+    signature_name: &[u8],
+    image_name: &[u8],
+    cache_name: &[u8],
+) -> Result<Verdict, FileError>
     ensures { Said result }
 {
     let mut signature = [0u8; SIGNATURE_ROOM];
@@ -172,19 +174,19 @@ pub fn answer(rt: &HostRuntime, signature_name: &[u8], image_name: &[u8], cache_
 }
 
 // Writes a line.
-pub fn print(rt: &impl Print, line: Line) -> io::Result<()> {
+pub fn print(rt: &impl Print, line: Result<Verdict, FileError>) -> io::Result<()> {
     let mut text = [0u8; LINE_ROOM];
     let n = put_line(line, &mut text);
-    rt.write_all(&text[0..n])
+    rt.write_all(&text[..n])
 }
 
-// Argument i in a buffer, and how many bytes it has there: 0 where it has no room, which names no file; nothing where it is not given.
-fn argument(env: &impl Env, i: usize, out: &mut [u8]) -> Option<usize>
-    ensures { IfSome result (λ n. IsPrefixLen n out.new) }
+// Argument i, where it is given; where it has no room it has no bytes, which name no file.
+fn argument<'a>(env: &impl Env, i: usize, out: &'a mut [u8]) -> Option<&'a [u8]>
+    ensures { IfSome result (λ word. length word.now ≤ length out.old) }
 {
     match env.arg(i, out) {
-        Ok(n) => Some(n),
-        Err(FillError::TooLong) => Some(0),
+        Ok(n) => Some(&out[..n]),
+        Err(FillError::TooLong) => Some(&[]),
         Err(FillError::NotPresent) => None,
     }
 }
@@ -199,10 +201,7 @@ pub fn run(rt: &HostRuntime) -> io::Result<()> {
     let c = argument(rt, 3, &mut cache);
     let more = argument(rt, 4, &mut []);
     match (a, b, c, more) {
-        (Some(a), Some(b), Some(c), None) => print(
-            rt,
-            answer(rt, &signature[0..a], &image[0..b], &cache[0..c]),
-        ),
+        (Some(a), Some(b), Some(c), None) => print(rt, answer(rt, a, b, c)),
         _ => rt.write_all(b"usage: admit SIGNATURE IMAGE CACHE\n"),
     }
 }

@@ -2,7 +2,7 @@
 ghost use Rattle.std.specs.Prelude.{◌≡◌, ◌++◌, ◌+◌, ◌≤◌, length, take};
 ghost use Rattle.admit_run.specs.Text.{most_digits, longest_line, Text, NumberAndPlace, WroteNumber};
 
-use crate::Line;
+use crate::FileError;
 use admission::Verdict;
 
 // Puts bytes behind the first `at` of a buffer, and answers where they end.
@@ -40,14 +40,15 @@ fn put_verdict(verdict: Verdict, out: &mut [u8]) -> usize
 }
 
 // Puts a line at the start of a buffer, and answers where it ends.
-pub fn put_line(line: Line, out: &mut [u8]) -> usize
+#[tactic(auto, unfolding(crate::specs::Text::Text))]
+pub fn put_line(line: Result<Verdict, FileError>, out: &mut [u8]) -> usize
     requires { longest_line ≤ length out.old }
     ensures upper_bound { result ≤ length out.new }
     ensures text { Text line (take result out.new) }
 {
     match line {
-        Line::NoFile => put(b"no file\n", out, 0),
-        Line::TooLong => put(b"too long\n", out, 0),
-        Line::Answered(verdict) => put_verdict(verdict, out),
+        Ok(verdict) => put_verdict(verdict, out),
+        Err(FileError::NoFile) => put(b"no file\n", out, 0),
+        Err(FileError::TooLong) => put(b"too long\n", out, 0),
     }
 }

@@ -7,8 +7,8 @@ ghost use Rattle.std.specs.Prelude.{◌≤◌, length};
 mod operations;
 mod readers;
 
-use corpus::PLACES;
-use operations::{MARKS, perform};
+use corpus::{Arena, Case};
+use operations::{Field, part, perform};
 use std::env::FillError;
 use std::io;
 use std::rt::Env;
@@ -24,105 +24,72 @@ const MOST_MARKS: usize = 64;
 // Room for a file's name.
 const NAME: usize = 4096;
 
-// A case that was run: where the file goes on, 0 where it is broken.
-fn run_case(
-    rt: &HostRuntime,
-    file: &[u8],
-    at: usize,
-    arena: &mut [u8],
-    places: &mut [usize; PLACES],
-    marks: &mut [u8],
-) -> io::Result<usize> {
-    let case = corpus::take_case(file, at, arena, places, MARKS);
-    let start = case.start;
-    let end = case.end;
-    let next = case.next;
-    if next == 0 {
-        return Ok(0);
-    }
-    rt.write_all(&file[start..end])?;
-    rt.write_all(b": ")?;
-    let n = take_marks(case.named, corpus::part(arena, places, MARKS), marks);
-    perform(rt, case.operation, arena, places, &mut marks[0..n])?;
-    Ok(next)
-}
-
-// The marks that a call starts with, and how many they are: those of the case where it names them, else those that the call before left.
-fn take_marks(named: bool, field: &[u8], marks: &mut [u8]) -> usize
-    ensures { result ≤ length marks.new }
+// The marks that a call starts with: those of the case where it names them, else those that the call before left. None where there are
+// more than have room.
+fn take_marks<'a>(named: bool, field: &[u8], marks: &'a mut [u8]) -> &'a mut [u8]
+    ensures { length result.now ≤ length marks.old }
 {
     let n = field.len();
     if marks.len() < n {
-        return 0;
+        return &mut marks[..0];
     }
-    if !named {
-        return n;
+    let taken = &mut marks[..n];
+    if named {
+        taken.copy_from_slice(field);
     }
-    copy(field, marks);
-    n
+    taken
 }
 
-// Copies bytes, as far as both go.
-fn copy(from: &[u8], to: &mut [u8]) {
-    for (a, b) in from.iter().zip(to.iter_mut()) {
-        *b = *a;
-    }
+// What runs cases. Fields, arena and marks go on from case to case, and from file to file.
+#[derive(Drop)]
+struct Runner<'a> {
+    rt: &'a HostRuntime,
+    arena: Arena<'a>,
+    marks: &'a mut [u8],
 }
 
-fn run_file(
-    rt: &HostRuntime,
-    file: &[u8],
-    arena: &mut [u8],
-    places: &mut [usize; PLACES],
-    marks: &mut [u8],
-) -> io::Result<()> {
-    let mut at: usize = 0;
-    while at < file.len() {
-        let next = run_case(rt, file, at, arena, places, marks)?;
-        if next <= at {
-            return rt.write_all(b"broken corpus\n");
+impl Runner<'_> {
+    fn run_case(&mut self, case: Case) -> io::Result<()> {
+        self.rt.write_all(case.name)?;
+        self.rt.write_all(b": ")?;
+        let marks = take_marks(case.named, part(&self.arena, Field::Marks), self.marks);
+        perform(self.rt, case.operation, &self.arena, marks)
+    }
+
+    fn run_file(&mut self, file: &[u8]) -> io::Result<()> {
+        let mut rest = file;
+        // A case says itself where it ends.
+        while !rest.is_empty() {
+            let Some(case) = self.arena.take_case(rest, Field::Marks as usize) else {
+                return self.rt.write_all(b"broken corpus\n");
+            };
+            self.run_case(case)?;
+            rest = case.rest;
         }
-        at = next;
+        Ok(())
     }
-    Ok(())
-}
 
-// Runs the file of a name.
-fn run_named(
-    rt: &HostRuntime,
-    name: &[u8],
-    file: &mut [u8],
-    arena: &mut [u8],
-    places: &mut [usize; PLACES],
-    marks: &mut [u8],
-) -> io::Result<()> {
-    let n = corpus::load(rt, name, file);
-    if n == 0 {
-        return rt.write_all(b"no corpus\n");
-    }
-    if n == file.len() {
-        return rt.write_all(b"corpus too long\n");
-    }
-    run_file(rt, &file[0..n], arena, places, marks)
-}
-
-// Runs the files of all arguments. Fields, arena and marks go on from file to file. An argument too long to be a name names no file.
-fn run_arguments(
-    rt: &HostRuntime,
-    file: &mut [u8],
-    arena: &mut [u8],
-    places: &mut [usize; PLACES],
-    marks: &mut [u8],
-) -> io::Result<()> {
-    let mut name = [0u8; NAME];
-    for i in 1..usize::MAX {
-        match rt.arg(i, &mut name) {
-            Ok(n) => run_named(rt, &name[0..n], file, arena, places, marks)?,
-            Err(FillError::TooLong) => run_named(rt, b"", file, arena, places, marks)?,
-            Err(FillError::NotPresent) => return Ok(()),
+    // Runs the file of a name, which is read into a buffer.
+    fn run_named(&mut self, name: &[u8], file: &mut [u8]) -> io::Result<()> {
+        match corpus::load(self.rt, name, file) {
+            None | Some(0) => self.rt.write_all(b"no corpus\n"),
+            Some(n) if n == file.len() => self.rt.write_all(b"corpus too long\n"),
+            Some(n) => self.run_file(&file[..n]),
         }
     }
-    Ok(())
+
+    // Runs the files of all arguments. An argument too long to be a name names no file.
+    fn run_arguments(&mut self, file: &mut [u8]) -> io::Result<()> {
+        let mut name = [0u8; NAME];
+        for i in 1..usize::MAX {
+            match self.rt.arg(i, &mut name) {
+                Ok(n) => self.run_named(&name[..n], file)?,
+                Err(FillError::TooLong) => self.run_named(b"", file)?,
+                Err(FillError::NotPresent) => return Ok(()),
+            }
+        }
+        Ok(())
+    }
 }
 
 // A function of its own, since the prover would else count the bytes of the room one by one.
@@ -131,9 +98,13 @@ fn room() -> [u8; FILE] {
 }
 
 fn run_in(rt: &HostRuntime, arena: &mut [u8; ARENA]) -> io::Result<()> {
-    let mut places = [0usize; PLACES];
     let mut marks = [0u8; MOST_MARKS];
-    run_arguments(rt, &mut room(), arena, &mut places, &mut marks)
+    let mut runner = Runner {
+        rt,
+        arena: Arena::new(arena),
+        marks: &mut marks,
+    };
+    runner.run_arguments(&mut room())
 }
 
 // The program.

@@ -1,75 +1,106 @@
-// What a case may ask for. A new operation is a number, a function and a line in `perform`, and its inputs are fields.
-//
-// 0, signature: the three exported readers, and every field of what they return. 1, slots: tests 1 to 18, then 21 to 23. 2, cache: tests
-// 24 to 30. 3, check: the whole check. 4, recheck. 5, small: document 01's small program, whose three fields are names of files. 6, file
-// read: where a Mach-O file has its signature. 7, file check: the whole check of a Mach-O file.
+// What a case may ask for. A new operation is a variant with its number, a function and a line in `perform`, and its inputs are fields.
 use crate::readers::print_readers;
-use corpus::{PLACES, part};
+use corpus::Arena;
 use layout::directory::CodeDirectory;
 use std::io;
 use trustcache::Launch;
 
-// Fields.
-const SIGNATURE: usize = 0;
+// The fields that an operation reads, in the order of their numbers.
+#[derive(Clone, Copy)]
+pub enum Field {
+    Signature,
+    Image,
+    Cache,
+    Info,
+    Resources,
+    Facts,
+    Range,
+    Types,
+    Hash,
+    Marks,
+    File,
+}
 
-const IMAGE: usize = 1;
+// A field's bytes.
+pub fn part<'a>(arena: &'a Arena, field: Field) -> &'a [u8] {
+    arena.part(field as usize)
+}
 
-const CACHE: usize = 2;
+#[derive(Clone, Copy)]
+enum Operation {
+    // The three exported readers, and every field of what they return.
+    Signature,
+    // Tests 1 to 18, then 21 to 23.
+    Slots,
+    // Tests 24 to 30.
+    Cache,
+    // The whole check.
+    Check,
+    Recheck,
+    // Document 01's small program, whose three fields are names of files.
+    Small,
+    // Where a Mach-O file has its signature.
+    FileRead,
+    // The whole check of a Mach-O file.
+    FileCheck,
+}
 
-const INFO: usize = 3;
+// The number of no operation.
+#[derive(Clone, Copy, Debug)]
+struct NoOperation;
 
-const RESOURCES: usize = 4;
+impl TryFrom<u8> for Operation {
+    type Error = NoOperation;
 
-const FACTS: usize = 5;
+    fn try_from(number: u8) -> Result<Self, NoOperation> {
+        match number {
+            0 => Ok(Operation::Signature),
+            1 => Ok(Operation::Slots),
+            2 => Ok(Operation::Cache),
+            3 => Ok(Operation::Check),
+            4 => Ok(Operation::Recheck),
+            5 => Ok(Operation::Small),
+            6 => Ok(Operation::FileRead),
+            7 => Ok(Operation::FileCheck),
+            _ => Err(NoOperation),
+        }
+    }
+}
 
-const RANGE: usize = 6;
-
-const TYPES: usize = 7;
-
-const HASH: usize = 8;
-
-pub const MARKS: usize = 9;
-
-const FILE: usize = 10;
-
-// Performs a case's operation and prints what it answers, to the line's end. The marks are those of the case, or those that the call before
-// left.
-pub fn perform(
-    rt: &HostRuntime,
-    operation: usize,
-    arena: &[u8],
-    places: &[usize; PLACES],
-    marks: &mut [u8],
-) -> io::Result<()> {
+// Performs the operation of a number and prints what it answers, to the line's end. The marks are those of the case, or those that the call
+// before left.
+pub fn perform(rt: &HostRuntime, number: u8, arena: &Arena, marks: &mut [u8]) -> io::Result<()> {
+    let Ok(operation) = Operation::try_from(number) else {
+        return rt.write_all(b"no such operation\n");
+    };
     match operation {
-        0 => print_readers(
+        Operation::Signature => print_readers(
             rt,
-            part(arena, places, SIGNATURE),
-            part(arena, places, TYPES),
+            part(arena, Field::Signature),
+            part(arena, Field::Types),
         ),
-        1 => slots(rt, arena, places),
-        2 => cache(rt, arena, places),
-        3 => check(rt, arena, places, marks),
-        4 => recheck(rt, arena, places, marks),
-        5 => small(rt, arena, places),
-        6 => file_read(rt, part(arena, places, FILE)),
-        7 => file_check(rt, arena, places, marks),
-        _ => rt.write_all(b"no such operation\n"),
+        Operation::Slots => slots(rt, arena),
+        Operation::Cache => cache(rt, arena),
+        Operation::Check => check(rt, arena, marks),
+        Operation::Recheck => recheck(rt, arena, marks),
+        Operation::Small => small(rt, arena),
+        Operation::FileRead => file_read(rt, part(arena, Field::File)),
+        Operation::FileCheck => file_check(rt, arena, marks),
     }
 }
 
 // An answer as a whole line.
 fn print_line(rt: &impl Print, number: u32, place: usize) -> io::Result<()> {
-    corpus::print_answer(rt, number, place)?;
-    rt.write_all(b"\n")
+    println!(rt; "{number} {place}")
 }
 
 fn flag(facts: &[u8], i: usize) -> bool {
-    endian::byte(facts, 0, i) == 1
+    fact(facts, i) == 1
 }
 
+// Facts that the field has no byte for are 0.
 fn fact(facts: &[u8], i: usize) -> u8 {
-    (endian::byte(facts, 0, i) % 256) as u8
+    facts.get(i).copied().unwrap_or(0)
 }
 
 // The launch facts; the two bytes before them say which side files are there.
@@ -84,9 +115,9 @@ fn launch(facts: &[u8]) -> Launch {
 }
 
 // Tests 1 to 18, then 21 to 23.
-fn slots(rt: &impl Print, arena: &[u8], places: &[usize; PLACES]) -> io::Result<()> {
-    let sig = part(arena, places, SIGNATURE);
-    let facts = part(arena, places, FACTS);
+fn slots(rt: &impl Print, arena: &Arena) -> io::Result<()> {
+    let sig = part(arena, Field::Signature);
+    let facts = part(arena, Field::Facts);
     let read = directory::tested(sig, 0);
     if read.number != 0 {
         return print_line(rt, read.number, read.place);
@@ -95,28 +126,28 @@ fn slots(rt: &impl Print, arena: &[u8], places: &[usize; PLACES]) -> io::Result<
         sig,
         superblob::blob_of(sig, CodeDirectory::TYPE),
         flag(facts, 0),
-        part(arena, places, INFO),
+        part(arena, Field::Info),
         flag(facts, 1),
-        part(arena, places, RESOURCES),
+        part(arena, Field::Resources),
     );
     print_line(rt, answer.number, answer.place)
 }
 
-// The first 20 bytes of an item; zeros where it is shorter.
-fn hash_of(item: &[u8]) -> [u8; 20] {
+// The first 20 bytes of a field; zeros where it is shorter.
+fn hash_of(field: &[u8]) -> [u8; 20] {
     let mut hash = [0u8; 20];
-    for i in 0..20 {
-        hash[i] = (endian::byte(item, 0, i) % 256) as u8;
+    for (to, from) in hash.iter_mut().zip(field) {
+        *to = *from;
     }
     hash
 }
 
 // Tests 24 to 30, of a directory hashed by SHA-256; whole checks have the other kinds.
-fn cache(rt: &impl Print, arena: &[u8], places: &[usize; PLACES]) -> io::Result<()> {
-    let hash = hash_of(part(arena, places, HASH));
-    let facts = launch(part(arena, places, FACTS));
+fn cache(rt: &impl Print, arena: &Arena) -> io::Result<()> {
+    let hash = hash_of(part(arena, Field::Hash));
+    let facts = launch(part(arena, Field::Facts));
     let answer = trustcache::tested(
-        part(arena, places, CACHE),
+        part(arena, Field::Cache),
         CodeDirectory::SHA256,
         hash,
         facts,
@@ -124,39 +155,29 @@ fn cache(rt: &impl Print, arena: &[u8], places: &[usize; PLACES]) -> io::Result<
     print_line(rt, answer.number, answer.place)
 }
 
-fn check(
-    rt: &impl Print,
-    arena: &[u8],
-    places: &[usize; PLACES],
-    marks: &mut [u8],
-) -> io::Result<()> {
-    let facts = part(arena, places, FACTS);
+fn check(rt: &impl Print, arena: &Arena, marks: &mut [u8]) -> io::Result<()> {
+    let facts = part(arena, Field::Facts);
     let verdict = trewizlow::trewizlow_check(
-        part(arena, places, SIGNATURE),
-        part(arena, places, IMAGE),
+        part(arena, Field::Signature),
+        part(arena, Field::Image),
         marks,
-        part(arena, places, CACHE),
+        part(arena, Field::Cache),
         flag(facts, 0),
-        part(arena, places, INFO),
+        part(arena, Field::Info),
         flag(facts, 1),
-        part(arena, places, RESOURCES),
+        part(arena, Field::Resources),
         launch(facts),
     );
     print_call(rt, verdict.number, verdict.place, marks)
 }
 
-fn recheck(
-    rt: &impl Print,
-    arena: &[u8],
-    places: &[usize; PLACES],
-    marks: &mut [u8],
-) -> io::Result<()> {
-    let range = part(arena, places, RANGE);
+fn recheck(rt: &impl Print, arena: &Arena, marks: &mut [u8]) -> io::Result<()> {
+    let range = part(arena, Field::Range);
     let answer = trewizlow::trewizlow_recheck(
-        part(arena, places, SIGNATURE),
+        part(arena, Field::Signature),
         endian::be64(range, 0, 0),
         endian::be64(range, 0, 8),
-        part(arena, places, IMAGE),
+        part(arena, Field::Image),
         marks,
     );
     print_call(rt, answer.number, answer.place, marks)
@@ -166,26 +187,19 @@ fn recheck(
 fn file_read(rt: &impl Print, file: &[u8]) -> io::Result<()> {
     let found = trewizlow::trewizlow_file_read(file);
     corpus::print_answer(rt, found.number, found.place)?;
-    corpus::print(rt, b" ", found.start)?;
-    corpus::print(rt, b"+", found.length)?;
-    rt.write_all(b"\n")
+    println!(rt; " {}+{}", found.start, found.length)
 }
 
-fn file_check(
-    rt: &impl Print,
-    arena: &[u8],
-    places: &[usize; PLACES],
-    marks: &mut [u8],
-) -> io::Result<()> {
-    let facts = part(arena, places, FACTS);
+fn file_check(rt: &impl Print, arena: &Arena, marks: &mut [u8]) -> io::Result<()> {
+    let facts = part(arena, Field::Facts);
     let verdict = trewizlow::trewizlow_file_check(
-        part(arena, places, FILE),
+        part(arena, Field::File),
         marks,
-        part(arena, places, CACHE),
+        part(arena, Field::Cache),
         flag(facts, 0),
-        part(arena, places, INFO),
+        part(arena, Field::Info),
         flag(facts, 1),
-        part(arena, places, RESOURCES),
+        part(arena, Field::Resources),
         launch(facts),
     );
     print_call(rt, verdict.number, verdict.place, marks)
@@ -194,7 +208,7 @@ fn file_check(
 // An answer, and the marks where there are any.
 fn print_call(rt: &impl Print, number: u32, place: usize, marks: &[u8]) -> io::Result<()> {
     corpus::print_answer(rt, number, place)?;
-    if marks.len() != 0 {
+    if !marks.is_empty() {
         rt.write_all(b" ")?;
         corpus::print_bytes(rt, marks)?;
     }
@@ -202,12 +216,12 @@ fn print_call(rt: &impl Print, number: u32, place: usize, marks: &[u8]) -> io::R
 }
 
 // The small program.
-fn small(rt: &HostRuntime, arena: &[u8], places: &[usize; PLACES]) -> io::Result<()> {
+fn small(rt: &HostRuntime, arena: &Arena) -> io::Result<()> {
     let line = admit_run::answer(
         rt,
-        part(arena, places, SIGNATURE),
-        part(arena, places, IMAGE),
-        part(arena, places, CACHE),
+        part(arena, Field::Signature),
+        part(arena, Field::Image),
+        part(arena, Field::Cache),
     );
     admit_run::print(rt, line)
 }

@@ -23,10 +23,6 @@ fn print_read(rt: &impl Print, sig: &[u8]) -> io::Result<()> {
     print_fields(rt, &fields(read))
 }
 
-fn wide(x: u8) -> usize {
-    x as usize
-}
-
 // The fields in the order of the C interface.
 fn fields(read: DirectoryFields) -> [usize; FIELDS] {
     [
@@ -38,10 +34,10 @@ fn fields(read: DirectoryFields) -> [usize; FIELDS] {
         read.ident_offset as usize,
         read.special_slots as usize,
         read.code_slots as usize,
-        wide(read.hash_size),
-        wide(read.hash_type),
-        wide(read.platform),
-        wide(read.page_shift),
+        read.hash_size as usize,
+        read.hash_type as usize,
+        read.platform as usize,
+        read.page_shift as usize,
         read.code_limit,
         read.page_size,
         read.ident_length,
@@ -50,18 +46,13 @@ fn fields(read: DirectoryFields) -> [usize; FIELDS] {
 
 // ` A B ..`, or ` -` where every field is 0.
 fn print_fields(rt: &impl Print, fields: &[usize; FIELDS]) -> io::Result<()> {
-    if !some_field(fields) {
+    if fields.iter().all(|field| *field == 0) {
         return rt.write_all(b" -");
     }
     for field in fields {
-        corpus::print(rt, b" ", *field)?;
+        print!(rt; " {field}")?;
     }
     Ok(())
-}
-
-// Whether a field is not 0.
-fn some_field(fields: &[usize; FIELDS]) -> bool {
-    fields.iter().any(|field| *field != 0)
 }
 
 fn print_cdhash(rt: &impl Print, sig: &[u8]) -> io::Result<()> {
@@ -73,58 +64,35 @@ fn print_cdhash(rt: &impl Print, sig: &[u8]) -> io::Result<()> {
 
 // ` HEX`, or ` -` where every byte is 0.
 fn print_hash(rt: &impl Print, hash: &[u8; 20]) -> io::Result<()> {
-    if !some_byte(hash) {
+    if hash.iter().all(|byte| *byte == 0) {
         return rt.write_all(b" -");
     }
     rt.write_all(b" ")?;
     corpus::print_bytes(rt, hash)
 }
 
-// Whether a byte is not 0.
-fn some_byte(hash: &[u8; 20]) -> bool {
-    hash.iter().any(|byte| *byte != 0)
-}
-
 // The types are 4 bytes each. The answer is that of the first lookup; it is printed again where a later one answers otherwise.
 fn print_finds(rt: &impl Print, sig: &[u8], types: &[u8]) -> io::Result<()> {
-    if types.len() < 4 {
+    let (types, _) = types.as_chunks::<4>();
+    let Some(first) = types.first() else {
         return Ok(());
-    }
-    let first = find(sig, endian::be32(types, 0, 0));
-    let number = first.number;
-    let place = first.place;
-    print_answer(rt, number, place)?;
-    for i in 0..types.len() / 4 {
-        print_find(rt, sig, endian::be32(types, 0, 4 * i), number, place)?;
+    };
+    let first = trewizlow::trewizlow_find(sig, u32::from_be_bytes(*first));
+    print!(rt; " {} {}", first.number, first.place)?;
+    for slot_type in types {
+        print_find(rt, sig, u32::from_be_bytes(*slot_type), first)?;
     }
     Ok(())
 }
 
-fn find(sig: &[u8], slot_type: usize) -> BlobPart {
-    trewizlow::trewizlow_find(sig, (slot_type % 4294967296) as u32)
-}
-
-fn print_answer(rt: &impl Print, number: u32, place: usize) -> io::Result<()> {
-    rt.write_all(b" ")?;
-    corpus::print_answer(rt, number, place)
-}
-
-// ` TYPE:START+LENGTH`, where one of the two is not 0; before it the answer, where it is not the one given.
-fn print_find(
-    rt: &impl Print,
-    sig: &[u8],
-    slot_type: usize,
-    number: u32,
-    place: usize,
-) -> io::Result<()> {
-    let found = find(sig, slot_type);
-    if found.number != number || found.place != place {
-        print_answer(rt, found.number, found.place)?;
+// ` TYPE:START+LENGTH`, where one of the two is not 0; before it the answer, where it is not that of the first lookup.
+fn print_find(rt: &impl Print, sig: &[u8], slot_type: u32, first: BlobPart) -> io::Result<()> {
+    let found = trewizlow::trewizlow_find(sig, slot_type);
+    if found.number != first.number || found.place != first.place {
+        print!(rt; " {} {}", found.number, found.place)?;
     }
     if found.start == 0 && found.length == 0 {
         return Ok(());
     }
-    corpus::print(rt, b" ", slot_type)?;
-    corpus::print(rt, b":", found.start)?;
-    corpus::print(rt, b"+", found.length)
+    print!(rt; " {slot_type}:{}+{}", found.start, found.length)
 }

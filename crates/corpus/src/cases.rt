@@ -2,151 +2,128 @@
 // and each field: its number (1 byte, below 16), its start in the arena (4 bytes, big-endian), and an item. The item is expanded into
 // the arena at that start, and the field is the part of the arena that it fills. A field that a case does not name stays as the cases
 // before it left it, and fields may share bytes.
-ghost use Rattle.std.specs.Prelude.{◌≤◌, length};
+ghost use Rattle.std.specs.Prelude.{◌≡◌, ◌<◌, ◌≤◌, length, replicate, IfSome};
 
 use crate::items::expand;
 
 const FIELDS: usize = 16;
 
-// The places of the fields: two numbers a field, its start in the arena and its length.
-pub const PLACES: usize = 2 * FIELDS;
-
-// A case, with its fields in the arena: its operation, whether it names the field that was asked about, where its name lies in the file,
-// and where the file goes on; 0 there where the file is not as described above.
+// A case, with its fields in the arena: its name, its operation, whether it names the field that was asked about, and the file behind it.
 #[derive(Clone, Copy)]
-pub struct Case {
-    pub operation: usize,
+pub struct Case<'a> {
+    pub name: &'a [u8],
+    pub operation: u8,
     pub named: bool,
-    pub start: usize,
-    pub end: usize,
-    pub next: usize,
+    pub rest: &'a [u8],
 }
 
-// A field that was taken: its number, and where the file goes on; 0 there where it is not as described above.
-#[derive(Drop)]
-struct Field {
+// The part of the arena that a field fills.
+#[derive(Clone, Copy)]
+struct Place {
+    start: usize,
+    length: usize,
+}
+
+// A field that was taken: its number, and the file behind it.
+#[derive(Clone, Copy)]
+struct Field<'a> {
     number: usize,
-    next: usize,
+    rest: &'a [u8],
 }
 
-// The fields that were taken: whether the one that was asked about is among them, and where the file goes on.
-#[derive(Drop)]
-struct Taken {
+// The fields that were taken: whether the one that was asked about is among them, and the file behind them.
+#[derive(Clone, Copy)]
+struct Taken<'a> {
     named: bool,
-    next: usize,
+    rest: &'a [u8],
 }
 
-// A field's part of the arena; nothing where it does not lie inside.
-pub fn part<'a>(arena: &'a [u8], places: &[usize; PLACES], field: usize) -> &'a [u8]
-    ensures { length result.now ≤ length arena.now }
-{
-    if FIELDS <= field {
-        return &arena[0..0];
-    }
-    let start = places[2 * field];
-    let size = places[2 * field + 1];
-    if arena.len() < start {
-        return &arena[0..0];
-    }
-    if arena.len() - start < size {
-        return &arena[0..0];
-    }
-    let end = start + size;
-    &arena[start..end]
+// The arena, and where each field lies in it.
+#[derive(Drop)]
+pub struct Arena<'a> {
+    bytes: &'a mut [u8],
+    places: [Place; FIELDS],
 }
 
-// Takes the field at `at`.
-fn take_field(file: &[u8], at: usize, arena: &mut [u8], places: &mut [usize; PLACES]) -> Field
-    ensures { result.next ≤ length file.now }
-{
-    let number = endian::byte(file, at, 0);
-    let start = endian::be32(file, at, 1);
-    let nothing = Field { number: 0, next: 0 };
-    if FIELDS <= number {
-        return nothing;
-    }
-    if file.len() <= at {
-        return nothing;
-    }
-    if file.len() - at < 5 {
-        return nothing;
-    }
-    let end = arena.len();
-    if end < start {
-        return nothing;
-    }
-    let item = expand(file, at + 5, &mut arena[start..end]);
-    let size = item.length;
-    let next = item.next;
-    places[2 * number] = start;
-    places[2 * number + 1] = size;
-    Field { number, next }
-}
-
-// Takes `count` fields from `at` on.
-fn take_fields(
-    file: &[u8],
-    at: usize,
-    count: usize,
-    arena: &mut [u8],
-    places: &mut [usize; PLACES],
-    asked: usize,
-) -> Taken
-    requires { at ≤ length file.now }
-    ensures { result.next ≤ length file.now }
-{
-    let mut named = false;
-    let mut next = at;
-    for _ in 0..count {
-        let field = take_field(file, next, arena, places);
-        if field.next <= next {
-            return Taken {
-                named: false,
-                next: 0,
-            };
-        }
-        next = field.next;
-        if field.number == asked {
-            named = true;
+impl<'a> Arena<'a> {
+    // An arena whose fields have no bytes yet.
+    pub fn new(bytes: &'a mut [u8]) -> Self
+        ensures bytes { result.bytes.now ≡ bytes.old }
+        ensures places { result.places ≡ replicate FIELDS (record { start = 0; length = 0 }) }
+    {
+        let nowhere = Place {
+            start: 0,
+            length: 0,
+        };
+        Arena {
+            bytes,
+            places: [nowhere; FIELDS],
         }
     }
-    Taken { named, next }
-}
 
-// Takes the case at `at`, and says whether it names the field `asked`.
-pub fn take_case(
-    file: &[u8],
-    at: usize,
-    arena: &mut [u8],
-    places: &mut [usize; PLACES],
-    asked: usize,
-) -> Case
-    ensures { (result.start ≤ result.end) × (result.end ≤ length file.now) × (result.next ≤ length file.now) }
-{
-    let size = endian::byte(file, at, 0);
-    let nothing = Case {
-        operation: 0,
-        named: false,
-        start: 0,
-        end: 0,
-        next: 0,
-    };
-    if file.len() <= at {
-        return nothing;
+    // A field's part of the arena; nothing where it does not lie inside.
+    fn find(&self, field: usize) -> Option<&[u8]>
+        ensures { IfSome result (λ part. length part.now ≤ length self.now.bytes.now) }
+    {
+        let place = *self.places.get(field)?;
+        self.bytes.get(place.start..)?.get(..place.length)
     }
-    if file.len() - at < size + 3 {
-        return nothing;
+
+    // A field's bytes: none where no case named it.
+    pub fn part(&self, field: usize) -> &[u8]
+        ensures { length result.now ≤ length self.now.bytes.now }
+    {
+        self.find(field).unwrap_or(&[])
     }
-    let start = at + 1;
-    let end = start + size;
-    let operation = endian::byte(file, end, 0);
-    let count = endian::byte(file, end, 1);
-    let taken = take_fields(file, end + 2, count, arena, places, asked);
-    Case {
-        operation,
-        named: taken.named,
-        start,
-        end,
-        next: taken.next,
+
+    // Takes the field at the start of a file. One whose item is broken has no bytes.
+    fn take_field<'f>(&mut self, file: &'f [u8]) -> Option<Field<'f>>
+        ensures { IfSome result (λ field. length field.rest.now < length file.now) }
+    {
+        let (head, rest) = file.split_first_chunk::<5>()?;
+        let [number, a, b, c, d] = *head;
+        let number = number as usize;
+        let start = u32::from_be_bytes([a, b, c, d]) as usize;
+        let place = self.places.get_mut(number)?;
+        let item = expand(rest, self.bytes.get_mut(start..)?);
+        *place = Place {
+            start,
+            length: item.map_or(0, |item| item.length),
+        };
+        Some(Field {
+            number,
+            rest: item?.rest,
+        })
+    }
+
+    // Takes `count` fields from the start of a file on.
+    fn take_fields<'f>(&mut self, file: &'f [u8], count: u8, asked: usize) -> Option<Taken<'f>>
+        ensures { IfSome result (λ taken. length taken.rest.now ≤ length file.now) }
+    {
+        let mut named = false;
+        let mut rest = file;
+        for _ in 0..count {
+            let field = self.take_field(rest)?;
+            named |= field.number == asked;
+            rest = field.rest;
+        }
+        Some(Taken { named, rest })
+    }
+
+    // Takes the case at the start of a file, and says whether it names the field `asked`; nothing where it is not as described above.
+    pub fn take_case<'f>(&mut self, file: &'f [u8], asked: usize) -> Option<Case<'f>>
+        ensures { IfSome result (λ case. (length case.name.now ≤ length file.now) × (length case.rest.now < length file.now)) }
+    {
+        let (size, rest) = file.split_first()?;
+        let (name, rest) = rest.split_at_checked(*size as usize)?;
+        let (head, rest) = rest.split_first_chunk::<2>()?;
+        let [operation, count] = *head;
+        let taken = self.take_fields(rest, count, asked)?;
+        Some(Case {
+            name,
+            operation,
+            named: taken.named,
+            rest: taken.rest,
+        })
     }
 }

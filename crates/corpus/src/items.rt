@@ -2,157 +2,88 @@
 // segment is a tag byte and a count n of 4 bytes, at least 1, and by its tag: 0, the n bytes that follow; 1, n times the byte that
 // follows; 2, the n bytes that the buffer holds at this place already; 3, n bytes of numbered records: the 24 bytes that follow, again
 // and again, but that each record has its number, from 0, in its first four bytes, the most significant first.
-ghost use Rattle.std.specs.Prelude.{◌≡◌, ◌+◌, ◌<◌, ◌≤◌, length};
+ghost use Rattle.std.specs.Prelude.{◌≡◌, ◌<◌, ◌≤◌, length, IfSome};
 
 // Bytes of a numbered record.
 const RECORD: usize = 24;
 
-// An item: how many bytes it has, and where the file goes on; 0 and 0 where the file is not as described above.
+// How many bytes an item or a segment made at the start of a buffer, and the file behind it.
 #[derive(Clone, Copy)]
-pub struct Item {
+pub struct Expanded<'a> {
     pub length: usize,
-    pub next: usize,
+    pub rest: &'a [u8],
 }
 
-// What one segment did: where the file goes on, and where the buffer does; 0 and 0 where it is not as described above.
-#[derive(Drop)]
-struct Step {
-    next: usize,
-    to: usize,
+// The record of a number: the template, but for its first four bytes.
+fn numbered(template: &[u8; RECORD], number: usize) -> [u8; RECORD] {
+    let mut record = *template;
+    let low = (number % 4294967296) as u32;
+    record[..4].copy_from_slice(&low.to_be_bytes());
+    record
 }
 
-// Copies n bytes of a file to a place of a buffer.
-fn copy(file: &[u8], from: usize, out: &mut [u8], to: usize, n: usize)
-    requires { (from + n ≤ length file.now) × (to + n ≤ length out.old) }
-{
-    for i in 0..n {
-        out[to + i] = file[from + i];
+// Fills a buffer with numbered records, of which the last may be cut.
+fn number(template: &[u8; RECORD], out: &mut [u8]) {
+    for (number, record) in out.chunks_mut(RECORD).enumerate() {
+        let whole = numbered(template, number);
+        for (byte, value) in record.iter_mut().zip(whole) {
+            *byte = value;
+        }
     }
 }
 
-// Fills n bytes of a buffer.
-fn fill(out: &mut [u8], to: usize, n: usize, b: u8)
-    requires { to + n ≤ length out.old }
+// Makes the bytes of a segment, as many as the buffer has, and answers the file behind it; nothing where it is not as described above.
+fn make_segment<'a>(tag: u8, file: &'a [u8], out: &mut [u8]) -> Option<&'a [u8]>
+    ensures { IfSome result (λ rest. length rest.now ≤ length file.now) }
 {
-    for i in 0..n {
-        out[to + i] = b;
-    }
-}
-
-// Byte i of numbered records whose template is at `from`.
-fn record_byte(file: &[u8], from: usize, i: usize) -> u8
-    requires { from + 24 ≤ length file.now }
-{
-    let number = i / RECORD;
-    let at = i % RECORD;
-    match at {
-        0 => (number / 16777216 % 256) as u8,
-        1 => (number / 65536 % 256) as u8,
-        2 => (number / 256 % 256) as u8,
-        3 => (number % 256) as u8,
-        _ => file[from + at],
-    }
-}
-
-// Makes n bytes of numbered records.
-fn number(file: &[u8], from: usize, out: &mut [u8], to: usize, n: usize)
-    requires { (from + 24 ≤ length file.now) × (to + n ≤ length out.old) }
-{
-    for i in 0..n {
-        out[to + i] = record_byte(file, from, i);
-    }
-}
-
-fn made(next: usize, to: usize) -> Step
-    ensures { (result.next ≡ next) × (result.to ≡ to) }
-{
-    Step { next, to }
-}
-
-fn broken() -> Step
-    ensures { (result.next ≡ 0) × (result.to ≡ 0) }
-{
-    made(0, 0)
-}
-
-// Expands the segment at `at` into the buffer from `to` on, which ends at `end`.
-fn expand_segment(file: &[u8], at: usize, out: &mut [u8], to: usize, end: usize) -> Step
-    requires { (at ≤ length file.now) × (to < end) × (end ≤ length out.old) }
-    ensures { (result.next ≤ length file.now) × (result.to ≤ end) }
-{
-    let n = endian::be32(file, at, 1);
-    if file.len() - at < 5 {
-        return broken();
-    }
-    let from = at + 5;
-    if n == 0 {
-        return broken();
-    }
-    if end - to < n {
-        return broken();
-    }
-    make_segment(file, from, out, to, n)
-}
-
-// Makes the n bytes of a segment whose tag and count stand before `from`.
-fn make_segment(file: &[u8], from: usize, out: &mut [u8], to: usize, n: usize) -> Step
-    requires { (5 ≤ from) × (from ≤ length file.now) × (to + n ≤ length out.old) }
-    ensures { (result.next ≤ length file.now) × (result.to ≤ to + n) }
-{
-    let after = to + n;
-    let left = file.len() - from;
-    let tag = file[from - 5];
     match tag {
         0 => {
-            if left < n {
-                return broken();
-            }
-            copy(file, from, out, to, n);
-            made(from + n, after)
+            let (literal, rest) = file.split_at_checked(out.len())?;
+            out.copy_from_slice(literal);
+            Some(rest)
         }
         1 => {
-            if left < 1 {
-                return broken();
-            }
-            fill(out, to, n, file[from]);
-            made(from + 1, after)
+            let (byte, rest) = file.split_first()?;
+            out.fill(*byte);
+            Some(rest)
         }
-        2 => made(from, after),
+        2 => Some(file),
         3 => {
-            if left < RECORD {
-                return broken();
-            }
-            number(file, from, out, to, n);
-            made(from + RECORD, after)
+            let (template, rest) = file.split_first_chunk::<RECORD>()?;
+            number(template, out);
+            Some(rest)
         }
-        _ => broken(),
+        _ => None,
     }
 }
 
-// Expands the item at `at` into a buffer.
-pub fn expand(file: &[u8], at: usize, out: &mut [u8]) -> Item
-    ensures { (result.length ≤ length out.new) × (result.next ≤ length file.now) }
+// Expands the segment at the start of a file into a buffer; nothing where it is not as described above.
+fn expand_segment<'a>(file: &'a [u8], out: &mut [u8]) -> Option<Expanded<'a>>
+    ensures { IfSome result (λ segment. (0 < segment.length) × (segment.length ≤ length out.new) × (length segment.rest.now ≤ length file.now)) }
 {
-    let size = endian::be32(file, at, 0);
-    let nothing = Item { length: 0, next: 0 };
-    if file.len() <= at {
-        return nothing;
+    let (head, rest) = file.split_first_chunk::<5>()?;
+    let [tag, a, b, c, d] = *head;
+    let length = u32::from_be_bytes([a, b, c, d]) as usize;
+    if length == 0 {
+        return None;
     }
-    if file.len() - at < 4 {
-        return nothing;
+    let rest = make_segment(tag, rest, out.get_mut(..length)?)?;
+    Some(Expanded { length, rest })
+}
+
+// Expands the item at the start of a file into a buffer; nothing where it is not as described above.
+pub fn expand<'a>(file: &'a [u8], out: &mut [u8]) -> Option<Expanded<'a>>
+    ensures { IfSome result (λ item. (item.length ≤ length out.new) × (length item.rest.now < length file.now)) }
+{
+    let (head, mut rest) = file.split_first_chunk::<4>()?;
+    let length = u32::from_be_bytes(*head) as usize;
+    let item = out.get_mut(..length)?;
+    let mut made = 0;
+    // Each segment says how many bytes it makes.
+    while made < length {
+        let segment = expand_segment(rest, &mut item[made..])?;
+        made += segment.length;
+        rest = segment.rest;
     }
-    if out.len() < size {
-        return nothing;
-    }
-    let mut next = at + 4;
-    let mut to: usize = 0;
-    while to < size {
-        let step = expand_segment(file, next, out, to, size);
-        if step.to <= to {
-            return nothing;
-        }
-        next = step.next;
-        to = step.to;
-    }
-    Item { length: size, next }
+    Some(Expanded { length, rest })
 }

@@ -8,49 +8,36 @@ mod cases;
 mod items;
 mod printing;
 
+ghost use Rattle.std.specs.Prelude.{IfSome};
 ghost use Rattle.io.specs.Counts.{IsPrefixLen};
 
-pub use cases::{Case, PLACES, part, take_case};
-pub use printing::{print, print_answer, print_bytes};
+pub use cases::{Arena, Case};
+pub use printing::{print_answer, print_bytes};
 use std::fs;
 use std::io::Read;
 use std::rt::Files;
 
-// Reads a file into a buffer, and answers how many bytes it has there: 0 where it cannot be opened. A read that fails ends them. Files have
-// names of UTF-8 text: one of other bytes names none.
-pub fn load(files: &impl Files, name: &[u8], out: &mut [u8]) -> usize
-    ensures { IsPrefixLen result out.new }
+// Reads a file into a buffer, and answers how many bytes it has there; nothing where it cannot be opened. A read that fails ends them. Files
+// have names of UTF-8 text: one of other bytes names none.
+pub fn load(files: &impl Files, name: &[u8], out: &mut [u8]) -> Option<usize>
+    ensures { IfSome result (λ n. IsPrefixLen n out.new) }
 {
-    let Ok(path) = str::from_utf8(name) else {
-        return 0;
-    };
-    match fs::open(files, path) {
-        Ok(mut file) => read_full(&mut file, out),
-        Err(_) => 0,
-    }
+    let path = str::from_utf8(name).ok()?;
+    let mut file = fs::open(files, path).ok()?;
+    Some(read_full(&mut file, out))
 }
 
 // Reads until the buffer is full, the file ends or a read fails.
 fn read_full(file: &mut impl Read, out: &mut [u8]) -> usize
     ensures { IsPrefixLen result out.new }
 {
-    let mut done: usize = 0;
+    let mut done = 0;
+    // `read_exact` tells no count where the file ends first, and `read_to_end` allocates.
     while done < out.len() {
-        let more = read_some(file, &mut out[done..]);
-        if more == 0 {
-            break;
+        match file.read(&mut out[done..]) {
+            Ok(0) | Err(_) => break,
+            Ok(more) => done += more,
         }
-        done += more;
     }
     done
-}
-
-// One read: how many bytes it gave, 0 where it failed.
-fn read_some(file: &mut impl Read, out: &mut [u8]) -> usize
-    ensures { IsPrefixLen result out.new }
-{
-    match file.read(out) {
-        Ok(n) => n,
-        Err(_) => 0,
-    }
 }

@@ -25,31 +25,22 @@ fn print_line(rt: &impl Print, bytes: &[u8]) -> io::Result<()> {
 // The digest by a kind, at the kind's width.
 fn print_digest(rt: &impl Print, kind: usize, message: &[u8]) -> io::Result<()> {
     let d = digest::digest(kind, message);
-    print_line(rt, &d[0..CodeDirectory::slot_width(kind)])
-}
-
-// The digest of the first n bytes.
-fn print_start(rt: &impl Print, kind: usize, message: &[u8; ROOM], n: usize) -> io::Result<()>
-    requires { n ≤ 1000000 }
-{
-    let all = &message[..];
-    print_digest(rt, kind, &all[0..n])
+    print_line(rt, &d[..CodeDirectory::slot_width(kind)])
 }
 
 // The digest of n times the byte b.
 fn print_repeated(rt: &impl Print, kind: usize, b: u8, n: usize) -> io::Result<()>
     requires { n ≤ 1000000 }
 {
-    let message = repeated(b);
-    print_start(rt, kind, &message, n)
+    print_digest(rt, kind, &repeated(b)[..n])
 }
 
 // Fills a slice with the bytes 89, 220, .. : byte i is 131 * i + 89 modulo 256.
 fn fill(out: &mut [u8]) {
-    let mut b: usize = 89;
+    let mut next: u8 = 89;
     for byte in out.iter_mut() {
-        *byte = (b % 256) as u8;
-        b = (b + 131) % 256;
+        *byte = next;
+        next = next.wrapping_add(131);
     }
 }
 
@@ -58,7 +49,7 @@ fn print_lengths(rt: &impl Print, kind: usize, pattern: &[u8]) -> io::Result<()>
     requires { length pattern.now ≡ 300 }
 {
     for n in 0..=300 {
-        print_digest(rt, kind, &pattern[0..n])?;
+        print_digest(rt, kind, &pattern[..n])?;
     }
     Ok(())
 }

@@ -1,36 +1,29 @@
--- Each file is judged by what its reading told (`judged_missing`, `judged_long`, `judged_has`), the ones before it having bytes. Assumes nothing.
+-- Each file is judged by what `within` answered, the ones before it having bytes. Assumes nothing.
 use mathlib.Core.Path.{ap, ◌∙◌}
-use native.Mathlib.Omega.{arith}
-use Rattle.admit_run.specs.declared.Line.TheVariants.{Answered}
+use Rattle.std.specs.Prelude.{Ok}
+use Rattle.std.proofs.lemmas.Result.{err_from_is_err_and}
 use Rattle.admit_run.specs.Small.{small_line}
-use Rattle.admit_run.proofs.Laws.{judged_missing, judged_long, judged_has}
-use borrow.Author.Rules.{rules}
+use Rattle.admit_run.proofs.Laws.{judged_wrong, judged_has}
 use Rattle.admit_run.proofs.line_of.Goals as goal
 
-pub returns-then-not-signature_there : goal.returns-then-not-signature_there
+pub returns-in_err-signature : goal.returns-in_err-signature
 unfolding small_line
-returns-then-not-signature_there c = judged_missing _ _ _ _ (search rules)
+returns-in_err-signature c =
+    let p = err_from_is_err_and c.from_residual.result c.from_residual.ensures.1 in
+    rw (p.1, p.2) (judged_wrong _ _ _ c.in_err-signature.ensures.outcome)
 
-pub returns-then-signature-gt-SIGNATURE_MOST : goal.returns-then-signature-gt-SIGNATURE_MOST
+pub returns-in_err-image : goal.returns-in_err-image
 unfolding small_line
-returns-then-signature-gt-SIGNATURE_MOST c = judged_long _ _ _ _ (search rules) (omega arith)
+returns-in_err-image c =
+    let p = err_from_is_err_and c.from_residual-in_err-image.result c.from_residual-in_err-image.ensures.1 in
+    rw (p.1, p.2) (judged_wrong _ _ _ c.in_err-image.ensures.outcome ∙ judged_has _ _ _ c.in_ok-signature.ensures.outcome)
 
-pub returns-then-not-image_there : goal.returns-then-not-image_there
+pub returns-in_err-cache : goal.returns-in_err-cache
 unfolding small_line
-returns-then-not-image_there c = judged_missing _ _ _ _ (search rules) ∙ judged_has _ _ _ _ (search rules) (omega arith)
-
-pub returns-then-image-gt-IMAGE_MOST : goal.returns-then-image-gt-IMAGE_MOST
-unfolding small_line
-returns-then-image-gt-IMAGE_MOST c = judged_long _ _ _ _ (search rules) (omega arith) ∙ judged_has _ _ _ _ (search rules) (omega arith)
-
-pub returns-then-not-cache_there : goal.returns-then-not-cache_there
-unfolding small_line
-returns-then-not-cache_there c = judged_missing _ _ _ _ (search rules) ∙ judged_has _ _ _ _ (search rules) (omega arith) ∙ judged_has _ _ _ _ (search rules) (omega arith)
-
-pub returns-then-cache-gt-CACHE_MOST : goal.returns-then-cache-gt-CACHE_MOST
-unfolding small_line
-returns-then-cache-gt-CACHE_MOST c = judged_long _ _ _ _ (search rules) (omega arith) ∙ judged_has _ _ _ _ (search rules) (omega arith) ∙ judged_has _ _ _ _ (search rules) (omega arith)
+returns-in_err-cache c =
+    let p = err_from_is_err_and c.from_residual-in_err-cache.result c.from_residual-in_err-cache.ensures.1 in
+    rw (p.1, p.2) (judged_wrong _ _ _ c.in_err-cache.ensures.outcome ∙ judged_has _ _ _ c.in_ok-image.ensures.outcome ∙ judged_has _ _ _ c.in_ok-signature.ensures.outcome)
 
 pub returns : goal.returns
 unfolding small_line
-returns c = ap Answered c.admit.ensures ∙ judged_has _ _ _ _ (search rules) (omega arith) ∙ judged_has _ _ _ _ (search rules) (omega arith) ∙ judged_has _ _ _ _ (search rules) (omega arith)
+returns c = ap Ok c.admit.ensures ∙ judged_has _ _ _ c.in_ok-cache.ensures.outcome ∙ judged_has _ _ _ c.in_ok-image.ensures.outcome ∙ judged_has _ _ _ c.in_ok-signature.ensures.outcome

@@ -1,0 +1,6 @@
+-- Each field leaves less of the file.
+use Rattle.std.proofs.Common.{length, ◌≤◌}
+use Rattle.corpus.proofs.cases.Arena.take_fields.Given as goal
+
+abbrev pub invariant-loop : goal.invariant-loop
+invariant-loop l = length l.rest ≤ length l.file
