@@ -1,4 +1,4 @@
--- A search through a range by `find`: it stops at the lowest position at which the test holds.
+-- A search by `find` through a range, or by `position` through a list: it stops at the lowest position at which the test holds.
 use Prim.Native.Nat.{ℕ, ◌<◌, ◌≤◌}
 use mathlib.Core.Bool.{Bool, true, false}
 use mathlib.Core.Path.{◌≡◌, sym, subst}
@@ -9,12 +9,13 @@ use native.Mathlib.Omega.{arith}
 use denote.Param.Members.{Mut}
 use denote.Ref.{Bor}
 use mathlib.Core.List.{List}
-use Rattle.std.proofs.lemmas.Iterator.{first_from_Range}
+use lib.ListN.{length, get_or}
+use Rattle.std.proofs.lemmas.Iterator.{YieldsList, IsFirst-from_position, first_from_Range}
 use Rattle.std.proofs.iter.Yields.{nat_range_steps}
 use Rattle.std.specs.Bool.{⊤}
-use Rattle.std.specs.Fn.{CalledAt}
+use Rattle.std.specs.Fn.{Called, CalledAt}
 use Rattle.std.specs.Iterator.{YieldsThen}
-use Rattle.std.specs.List.{FoldsTo}
+use Rattle.std.specs.List.{FoldsTo, AllWithin, HoldsAt}
 use Rattle.refusals.specs.Refusals.{Cond, holds, lowest}
 use Rattle.refusals.proofs.Conditions.{said}
 use Rattle.refusals.proofs.Positions.{none_fails, lowest_stop}
@@ -37,3 +38,24 @@ pub searched : {F : Type 0} {g : Mut F (Bor ℕ × Unit {0}) Bool} (f : ℕ → 
 searched f s u p r ran held failed z =
     subst (λ (a : ℕ). MatchOption r ((k : ℕ) → a ≤ k → k < s.end → false ≡ holds (f k)) (λ i. (a ≤ i) × (i < s.end) × (true ≡ holds (f i)) × ((k : ℕ) → a ≤ k → k < i → false ≡ holds (f k)))) z
     (first_from_Range s u p r (λ k. true ≡ holds (f k)) (λ k. false ≡ holds (f k)) ran held failed)
+
+-- where a search through n elements stops
+abbrev pub Stopped : (ℕ → Cond) → ℕ → Option ℕ → Type 0
+Stopped f n r = MatchOption r (lowest f n ≡ n) (λ i. (i < n) × (lowest f n ≡ i))
+
+stopped : (t : ℕ → Cond) (all : List ℕ) (r : Option ℕ)
+    → MatchOption r (AllWithin (λ x. false ≡ holds (t x)) all 0 (length all)) (λ i. (i < length all) × HoldsAt (λ x. true ≡ holds (t x)) all i × AllWithin (λ x. false ≡ holds (t x)) all 0 i)
+    → Stopped (λ k. t (get_or all k 0)) (length all) r
+stopped t all None h = none_fails (λ k. t (get_or all k 0)) (length all) (λ k l. said false _ (h k 0 (omega arith) l))
+stopped t all (Some i) h =
+    let f = λ (k : ℕ). t (get_or all k 0) in
+    (h.0, sym (lowest_stop f (length all) i h.0 (none_fails f i (λ k l. said false (f k) (h.2 k 0 (omega arith) l))) (h.1 0)))
+
+-- a call of `position`, by what it says of its run, where each call of the closure leaves it as it was and answers as t holds of the element
+pub positioned : {S A F : Type 0} {steps : S → Option A → S → Type 0} {v : A → ℕ} {g : Mut F (A × Unit {0}) Bool} {s : S} {all : List ℕ} (t : ℕ → Cond) (u : S) (p : F) (r : Option ℕ)
+    → (xs : List A) × (o : Option A) × (j : F) × YieldsThen steps s xs o u × FoldsTo (λ p x q. Called g p (x, tt) false q) p xs j × MatchOption o (r ≡ None) (λ x. (r ≡ Some (length xs)) × ((h : F) × Called g j (x, tt) true h))
+    → YieldsList steps v s all → ((x : A) (q : F) → Called g p (x, tt) true q → true ≡ holds (t (v x)))
+    → ((x : A) (q : F) → Called g p (x, tt) false q → (q ≡ p) × (false ≡ holds (t (v x))))
+    → Stopped (λ k. t (get_or all k 0)) (length all) r
+positioned {all = all} t u p r ran yields held failed =
+    stopped t all r (IsFirst-from_position u p r (λ x. true ≡ holds (t x)) (λ x. false ≡ holds (t x)) ran yields held failed)
