@@ -6,9 +6,10 @@
 
 ghost use Rattle.std.specs.Prelude.{◌≡◌, ◌+◌, ◌*◌, ◌<◌, ◌≤◌, ◌^◌};
 ghost use Rattle.refusals.specs.Refusals.{first, accepted};
+ghost use Rattle.refusals.specs.Named.{test_answer};
 ghost use Rattle.geometry.specs.Pages.{page_bytes, page_count, page_end, met_first, met_end, wanted, range_rows};
 
-use refusals::Answer;
+use refusals::Refusal;
 
 // The page sizes that a pageSize field of 12 and of 14 stands for.
 const SMALL: usize = 4096;
@@ -31,10 +32,7 @@ pub fn page_bytes(shift: usize, limit: usize) -> usize
 pub fn page_count(p: usize, limit: usize) -> usize
     ensures { result ≡ page_count p limit }
 {
-    if limit == 0 {
-        return 0;
-    }
-    if p == 0 {
+    if limit == 0 || p == 0 {
         return 0;
     }
     (limit - 1) / p + 1
@@ -53,10 +51,7 @@ pub fn page_end(p: usize, limit: usize, i: usize) -> usize
 pub fn first_met(p: usize, start: usize, size: usize) -> usize
     ensures { result ≡ met_first p start size }
 {
-    if size == 0 {
-        return 0;
-    }
-    if p == 0 {
+    if size == 0 || p == 0 {
         return 0;
     }
     start / p
@@ -90,29 +85,20 @@ fn wanted_bytes(p: usize, limit: usize, start: usize, size: usize) -> usize
 }
 
 // Tests 32 and 33: the range of a recheck, and how many bytes are given for it.
-pub fn range_tested(p: usize, limit: usize, start: u64, size: u64, given: usize) -> Answer
-    ensures { result ≡ first (range_rows p limit start size given) accepted }
+pub fn range_tested(
+    p: usize,
+    limit: usize,
+    start: u64,
+    size: u64,
+    given: usize,
+) -> Result<(), Refusal>
+    ensures { test_answer result ≡ first (range_rows p limit start size given) accepted }
 {
-    if (limit as u64) < start {
-        return Answer {
-            number: 32,
-            place: 0,
-        };
-    }
-    if limit as u64 - start < size {
-        return Answer {
-            number: 32,
-            place: 0,
-        };
+    if (limit as u64) < start || limit as u64 - start < size {
+        return Err(Refusal::RangeOutside);
     }
     if given != wanted_bytes(p, limit, start as usize, size as usize) {
-        return Answer {
-            number: 33,
-            place: 0,
-        };
+        return Err(Refusal::ContentsLength);
     }
-    Answer {
-        number: 0,
-        place: 0,
-    }
+    Ok(())
 }

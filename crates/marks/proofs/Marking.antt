@@ -1,6 +1,6 @@
 -- Laws of marks: what a mark says, the marks of an image, and what the routine that writes them is lent and leaves.
 use Prim.Native.Nat.{ℕ, ◌+◌, ◌-◌, ◌*◌, ◌≤◌, ◌<◌, min}
-use mathlib.Core.Path.{◌≡◌, refl, sym, ap, subst, ◌∙◌}
+use mathlib.Core.Path.{◌≡◌, refl, sym, ap, ◌∙◌}
 use mathlib.Core.Logic.{◌⊎◌, inl, inr, ◌↔◌}
 use mathlib.Core.Bool.{Bool, true, false, cond}
 use mathlib.Core.List.{List, ◌++◌, append_assoc}
@@ -17,9 +17,11 @@ use Rattle.digest.proofs.Digests.{digest_first}
 use Rattle.digest.proofs.Equality.{same_equal, equal_same}
 use Rattle.layout.specs.CodeDirectory.{width_of}
 use Rattle.layout.proofs.Widths.{slot_end}
-use Rattle.geometry.specs.Pages.{page_count, page_start, page_end, part, page_of, met_first, met_end}
+use Rattle.geometry.specs.Pages.{page_count, page_end, part, page_of, met_first, met_end}
 use Rattle.marks.specs.Marks.{Slots, width, slot_at, agrees, AgreesExactly, mark_of, marks_of, mark_in, marks_from, remarked, neither, differs, mark_rows, bad_rows, judged, PageHere, PagesHere, RangeHere}
-use Rattle.geometry.proofs.Pages.{met_le, met_count}
+use Rattle.marks.specs.declared.Pages.{Pages}
+use Rattle.marks.specs.Lent.{slots_of, OneHere}
+use Rattle.geometry.proofs.Pages.{met_le, met_count, count_of, count_most, Within, within}
 use Rattle.geometry.proofs.Parts.{part_below}
 use Rattle.marks.proofs.Tabs.{tab_length, tab_at, tab_same}
 
@@ -58,15 +60,11 @@ module _ (slots : Slots) (n at w : ℕ) (place : at ≡ width slots * n) (wide :
       → (m : List ℕ) → d ≡ digest_of slots.kind m ++ replicate (48 - width slots) 0 → v ≡ mark_of slots n m
   cut_mark d v b h t m e = t ∙ mark_of_agrees slots n m b (cut_agrees d b h m e)
 
--- of page n, by the digest d of its bytes m and the slot of page k
-pub page_mark : (p limit : ℕ) (slots : Slots) (from : ℕ) (bytes : List ℕ) (kind k n : ℕ) (d m : List ℕ) (v : ℕ)
-    → ((m : List ℕ) → d ≡ digest_of slots.kind m ++ replicate (48 - width slots) 0 → v ≡ mark_of slots k m)
-    → d ≡ digest_of kind m ++ replicate (48 - width_of kind) 0
-    → m ≡ part bytes (page_start p n - page_start p from) (page_end p limit n - page_start p from) → kind ≡ slots.kind → k ≡ n
-    → v ≡ mark_in p limit slots from bytes n
-page_mark p limit slots from bytes kind k n d m v h e q x y =
-    h m (subst (λ (t : ℕ). d ≡ digest_of t m ++ replicate (48 - width_of t) 0) x e) ∙ ap (mark_of slots k) q
-    ∙ ap (λ (i : ℕ). mark_of slots i (part bytes (page_start p n - page_start p from) (page_end p limit n - page_start p from))) y
+-- of page n, by the digest d of its bytes m
+pub page_mark : (pages : Pages) (n : ℕ) (d m : List ℕ) (v : ℕ) (bytes : List ℕ)
+    → ((m : List ℕ) → d ≡ digest_of pages.kind m ++ replicate (48 - width (slots_of pages)) 0 → v ≡ mark_of (slots_of pages) n m)
+    → d ≡ digest_of pages.kind m ++ replicate (48 - width_of pages.kind) 0 → m ≡ bytes → v ≡ mark_of (slots_of pages) n bytes
+page_mark pages n d m v bytes h e q = h m e ∙ ap (mark_of (slots_of pages) n) q
 
 -- the mark is 0 exactly when the slot holds the digest
 pub mark_exact : (slots : Slots) (i : ℕ) (bytes : List ℕ) → (mark_of slots i bytes ≡ 0) ↔ (digest_of slots.kind bytes ≡ slot_at slots i)
@@ -151,14 +149,18 @@ judged_number marks place = by_test (holds _)
 
 -- WHAT THE ROUTINE IS LENT
 
--- slot k of those that reach up to slot n, over their width w
-pub slot_before : (w k n most : ℕ) → w * n + w ≤ most → k ≤ n → w * k + w ≤ most
-slot_before w k n most h l = omega (arith, mul-le-mul_left {m = k} {n = n} w l)
-
 -- where a page ends, of the first n
 ends_below : (p limit k n : ℕ) → k < n → page_end p limit k ≤ min (p * n) limit
 ends_below p limit k n h =
     le-min {k = page_end p limit k} (le_trans (min-le_left (p * (k + 1)) limit) (mul-le-mul_left {n = n} p (omega arith))) (min-le_right (p * (k + 1)) limit)
+
+-- page n is below the limit, so that its number is a number of the machine
+pub page_most : (pages : Pages) (n : ℕ) → OneHere pages n → n < pages.limit
+page_most pages n h = omega (arith, h.here, count_most pages.p pages.limit)
+
+-- page n lies in the bytes
+pub page_within : (pages : Pages) (n : ℕ) → OneHere pages n → Within pages.p pages.limit pages.from n
+page_within pages n h = within _ _ _ _ h.after (count_of _ _ _ (omega (arith, h.here)))
 
 -- each of the pages is there
 pub page_of_here : (p limit : ℕ) (slots : Slots) (first n : ℕ) (bytes : List ℕ) (k : ℕ) → PagesHere p limit slots first n bytes → first ≤ k → k < first + n
@@ -169,17 +171,6 @@ page_of_here p limit slots first n bytes k h o u =
       here = omega arith;
       slot = omega (arith, slot_end (width slots) k (first + n) u, h.slotted);
       held = omega (arith, ends_below p limit k (first + n) u);
-    }
-
--- where page n is there, so are those before it
-pub page_before : (p limit : ℕ) (slots : Slots) (first n : ℕ) (bytes : List ℕ) (k : ℕ) → PageHere p limit slots first n bytes → first ≤ k → k ≤ n
-    → PageHere p limit slots first k bytes
-page_before p limit slots first n bytes k h o u =
-    record {
-      after = o;
-      here = omega (arith, h.here);
-      slot = slot_before (width slots) k n _ h.slot u;
-      held = omega (arith, ends_below p limit k (n + 1) (omega arith), h.held);
     }
 
 -- all pages, in an image that reaches the limit

@@ -5,214 +5,130 @@
 // and pages of the other kinds, one by one.
 #![tactic(auto)]
 
-ghost use Rattle.std.specs.Prelude.{◌≡◌, List, ◌++◌, ℕ, ◌+◌, ◌-◌, ◌*◌, ◌≤◌, length, drop, replicate};
-ghost use Rattle.layout.specs.CodeDirectory.{width_of};
-ghost use Rattle.geometry.specs.Pages.{page_count, page_start, page_end, part};
+ghost use Rattle.std.specs.Prelude.{◌≡◌, List, ◌++◌, ℕ, ◌+◌, ◌-◌, ◌*◌, ◌≤◌, length, drop, replicate, IfSome};
+ghost use Rattle.geometry.specs.Pages.{page_start, page_end, part};
 ghost use Rattle.digest.specs.Kinds.{digest_of};
-ghost use Rattle.refusals.specs.Refusals.{lowest, first, accepted};
-ghost use Rattle.marks.specs.Marks.{slots_of_kind, mark_of, tab, mark_in, marks_from, neither, differs, mark_rows, judged, PageHere, PagesHere};
+ghost use Rattle.refusals.specs.Refusals.{first, accepted};
+ghost use Rattle.refusals.specs.Named.{test_answer, place_answer};
+ghost use Rattle.marks.specs.Marks.{width, mark_of, tab, mark_rows, judged};
 
 use geometry::page_end;
 use layout::directory::CodeDirectory;
-use refusals::Answer;
+use refusals::Refusal;
 
-// The bytes of page n, of bytes that begin where page `from` begins.
-fn page_bytes<'a>(p: usize, limit: usize, from: usize, n: usize, bytes: &'a [u8]) -> &'a [u8]
-    requires { (from ≤ n) × (n + 1 ≤ page_count p limit) × (page_end p limit n - page_start p from ≤ length bytes.now) }
-    ensures { result.now ≡ part bytes.now (page_start p n - page_start p from) (page_end p limit n - page_start p from) }
-{
-    let base = p * from;
-    let start = p * n - base;
-    let end = page_end(p, limit, n) - base;
-    &bytes[start..end]
-}
-
-// The mark of page n by its digest d.
-fn mark_of(kind: usize, slots: &[u8], n: usize, d: [u8; 48]) -> u8
-    requires { width_of kind * n + width_of kind ≤ length slots.now }
-    ensures { (m : List ℕ) → d ≡ digest_of kind m ++ replicate (48 - width_of kind) 0 → result ≡ mark_of (slots_of_kind kind slots.now) n m }
-{
-    let slot = CodeDirectory::slot_bytes(kind, n);
-    let next = slot + CodeDirectory::slot_width(kind);
-    if digest::slot_holds(kind, &slots[slot..next], d) {
-        0
-    } else {
-        1
-    }
-}
-
-// The mark of page n, of bytes that begin where page `from` begins. The page is hashed where it lies.
-fn mark_page(
-    p: usize,
-    limit: usize,
-    kind: usize,
-    slots: &[u8],
-    from: usize,
-    n: usize,
-    bytes: &[u8],
-) -> u8
-    requires { PageHere p limit (slots_of_kind kind slots.now) from n bytes.now }
-    ensures { result ≡ mark_in p limit (slots_of_kind kind slots.now) from bytes.now n }
-{
-    let page = page_bytes(p, limit, from, n, bytes);
-    mark_of(kind, slots, n, digest::digest(kind, page))
-}
-
-// The marks of four pages that were hashed side by side; a count of 0 says that they cannot be.
+// Pages of p bytes up to the code limit, the code slots of all pages, by their hash kind, and bytes that begin where page `from` begins:
+// the image itself for all pages, or what is lent for the pages that a range meets.
 #[derive(Clone, Copy)]
-struct FourMarks {
-    count: usize,
-    marks: [u8; 4],
+pub struct Pages<'a> {
+    pub p: usize,
+    pub limit: usize,
+    pub kind: usize,
+    pub slots: &'a [u8],
+    pub from: usize,
+    pub bytes: &'a [u8],
 }
 
-// The marks of page n and the three behind it, where they can be hashed side by side.
-fn mark_four(
-    p: usize,
-    limit: usize,
-    kind: usize,
-    slots: &[u8],
-    from: usize,
-    n: usize,
-    bytes: &[u8],
-) -> FourMarks
-    requires { (from ≤ n) × PageHere p limit (slots_of_kind kind slots.now) from (n + 3) bytes.now }
-    ensures { (result.count ≡ 0 → ⊥) → result.marks ≡ tab n 4 (mark_in p limit (slots_of_kind kind slots.now) from bytes.now) }
-{
-    let n1 = n + 1;
-    let n2 = n + 2;
-    let n3 = n + 3;
-    let a = page_bytes(p, limit, from, n, bytes);
-    let b = page_bytes(p, limit, from, n1, bytes);
-    let c = page_bytes(p, limit, from, n2, bytes);
-    let d = page_bytes(p, limit, from, n3, bytes);
-    if digest::side_by_side(kind, a, b, c, d) {
-        let x = digest::digest_four(kind, a, b, c, d);
-        let xa = x.a;
-        let xb = x.b;
-        let xc = x.c;
-        let xd = x.d;
-        return FourMarks {
-            count: 4,
-            marks: [
-                mark_of(kind, slots, n, xa),
-                mark_of(kind, slots, n1, xb),
-                mark_of(kind, slots, n2, xc),
-                mark_of(kind, slots, n3, xd),
-            ],
-        };
-    }
-    FourMarks {
-        count: 0,
-        marks: [0; 4],
-    }
-}
+impl<'a> Pages<'a> {
+    ghost use Rattle.marks.specs.Lent.{slots_of, mark_at, marks_at, OneHere, AllHere};
 
-// Writes the marks of the pages from `from` on, four at a time, as far as four can be hashed side by side, and gives their number.
-fn mark_fours(
-    p: usize,
-    limit: usize,
-    kind: usize,
-    slots: &[u8],
-    from: usize,
-    bytes: &[u8],
-    marks: &mut [u8],
-) -> usize
-    requires { PagesHere p limit (slots_of_kind kind slots.now) from (length marks.old) bytes.now }
-    ensures { (marks.new ≡ tab from result (mark_in p limit (slots_of_kind kind slots.now) from bytes.now) ++ drop result marks.old) × (result ≤ length marks.old) }
-{
-    let mut i = 0;
-    while 4 <= marks.len() - i {
-        let four = mark_four(p, limit, kind, slots, from, from + i, bytes);
-        let m = four.marks;
-        if four.count == 0 {
-            return i;
+    // Hashes the pages from `from` on by the slots' kind, one for each mark, and writes their marks.
+    pub fn mark(&self, marks: &mut [u8])
+        requires { AllHere self.now (length marks.old) }
+        ensures { marks.new ≡ marks_at self.now (length marks.old) }
+    {
+        for i in self.mark_fours(marks)..marks.len() {
+            marks[i] = self.mark_page(self.from + i);
         }
-        marks[i] = m[0];
-        marks[i + 1] = m[1];
-        marks[i + 2] = m[2];
-        marks[i + 3] = m[3];
-        i += 4;
     }
-    i
-}
 
-// Hashes the pages from `from` on by the slots' kind, one for each mark, and writes their marks. The bytes begin where page `from` begins: the image
-// itself for all pages, or what is lent for the pages that a range meets.
-pub fn mark_pages(
-    p: usize,
-    limit: usize,
-    kind: usize,
-    slots: &[u8],
-    from: usize,
-    bytes: &[u8],
-    marks: &mut [u8],
-)
-    requires { PagesHere p limit (slots_of_kind kind slots.now) from (length marks.old) bytes.now }
-    ensures { marks.new ≡ marks_from p limit (slots_of_kind kind slots.now) from (length marks.old) bytes.now }
-{
-    let mut i = mark_fours(p, limit, kind, slots, from, bytes, marks);
-    while i < marks.len() {
-        let m = mark_page(p, limit, kind, slots, from, from + i, bytes);
-        marks[i] = m;
-        i += 1;
-    }
-}
-
-// The lowest page whose mark is neither 0 nor 1, or the number of marks.
-fn lowest_neither(marks: &[u8]) -> usize
-    ensures { result ≡ lowest (neither marks.now) (length marks.now) }
-{
-    let mut i = 0;
-    while i < marks.len() {
-        if 1 < marks[i] {
-            return i;
+    // Writes the marks of the pages from `from` on, four at a time, as far as four can be hashed side by side, and gives their number.
+    fn mark_fours(&self, marks: &mut [u8]) -> usize
+        requires { AllHere self.now (length marks.old) }
+        ensures { (marks.new ≡ tab self.now.from result (mark_at self.now) ++ drop result marks.old) × (result ≤ length marks.old) }
+    {
+        let fours = marks.len() / 4;
+        for i in 0..fours {
+            let Some(four) = self.mark_four(self.from + 4 * i) else {
+                return 4 * i;
+            };
+            marks[4 * i..4 * i + 4].copy_from_slice(&four);
         }
-        i += 1;
+        4 * fours
     }
-    i
-}
 
-// The lowest page that is marked 1, or the number of marks.
-fn lowest_differs(marks: &[u8]) -> usize
-    ensures { result ≡ lowest (differs marks.now) (length marks.now) }
-{
-    let mut i = 0;
-    while i < marks.len() {
-        if marks[i] == 1 {
-            return i;
+    // The marks of page n and the three behind it, where they can be hashed side by side.
+    #[tactic(auto, using(crate::proofs::Marking::page_most))]
+    fn mark_four(&self, n: usize) -> Option<[u8; 4]>
+        requires { (self.now.from ≤ n) × OneHere self.now (n + 3) }
+        ensures { IfSome result (λ marks. marks ≡ tab n 4 (mark_at self.now)) }
+    {
+        let a = self.page_bytes(n);
+        let b = self.page_bytes(n + 1);
+        let c = self.page_bytes(n + 2);
+        let d = self.page_bytes(n + 3);
+        if !digest::side_by_side(self.kind, a, b, c, d) {
+            return None;
         }
-        i += 1;
+        let x = digest::digest_four(self.kind, a, b, c, d);
+        Some([
+            self.mark_of(n, x.a),
+            self.mark_of(n + 1, x.b),
+            self.mark_of(n + 2, x.c),
+            self.mark_of(n + 3, x.d),
+        ])
     }
-    i
+
+    // The mark of page n. The page is hashed where it lies.
+    fn mark_page(&self, n: usize) -> u8
+        requires { OneHere self.now n }
+        ensures { result ≡ mark_at self.now n }
+    {
+        self.mark_of(n, digest::digest(self.kind, self.page_bytes(n)))
+    }
+
+    // The mark of page n by its digest d.
+    fn mark_of(&self, n: usize, d: [u8; 48]) -> u8
+        requires { width (slots_of self.now) * n + width (slots_of self.now) ≤ length self.now.slots.now }
+        ensures { (m : List ℕ) → d ≡ digest_of self.now.kind m ++ replicate (48 - width (slots_of self.now)) 0 → result ≡ mark_of (slots_of self.now) n m }
+    {
+        let slot = CodeDirectory::slot_bytes(self.kind, n);
+        let next = slot + CodeDirectory::slot_width(self.kind);
+        if digest::slot_holds(self.kind, &self.slots[slot..next], d) {
+            0
+        } else {
+            1
+        }
+    }
+
+    // The bytes of page n.
+    #[tactic(auto, using(crate::proofs::Marking::page_within))]
+    fn page_bytes(&self, n: usize) -> &'a [u8]
+        requires { OneHere self.now n }
+        ensures { result.now ≡ part self.now.bytes.now (page_start self.now.p n - page_start self.now.p self.now.from) (page_end self.now.p self.now.limit n - page_start self.now.p self.now.from) }
+    {
+        let base = self.p * self.from;
+        let start = self.p * n - base;
+        let end = page_end(self.p, self.limit, n) - base;
+        &self.bytes[start..end]
+    }
 }
 
-// Test 34: every mark is 0 or 1.
-pub fn marks_tested(marks: &[u8]) -> Answer
-    ensures { result ≡ first (mark_rows marks.now) accepted }
+// Test 34: every mark is 0 or 1. The refusal names the lowest page whose mark is neither.
+pub fn marks_tested(marks: &[u8]) -> Result<(), Refusal>
+    ensures { test_answer result ≡ first (mark_rows marks.now) accepted }
 {
-    let page = lowest_neither(marks);
-    if page < marks.len() {
-        return Answer {
-            number: 34,
-            place: page,
-        };
-    }
-    Answer {
-        number: 0,
-        place: 0,
+    match marks.iter().position(|mark| 1 < *mark) {
+        Some(page) => Err(Refusal::MarkNeither(page)),
+        None => Ok(()),
     }
 }
 
-// Test 31: the lowest page marked 1, or else 0 with the place given.
-pub fn judge(marks: &[u8], place: usize) -> Answer
-    ensures { result ≡ judged marks.now place }
+// Test 31: the refusal names the lowest page marked 1; where none is, the place given stands.
+pub fn judge(marks: &[u8], place: usize) -> Result<usize, Refusal>
+    ensures { place_answer result ≡ judged marks.now place }
 {
-    let page = lowest_differs(marks);
-    if page < marks.len() {
-        return Answer {
-            number: 31,
-            place: page,
-        };
+    match marks.iter().position(|mark| *mark == 1) {
+        Some(page) => Err(Refusal::PageDiffers(page)),
+        None => Ok(place),
     }
-    Answer { number: 0, place }
 }

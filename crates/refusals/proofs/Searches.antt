@@ -1,4 +1,4 @@
--- A search through a range by `find`: it stops at the lowest position at which the test holds.
+-- A search by `find` through a range, or by `position` through a list: it stops at the lowest position at which the test holds.
 use Prim.Native.Nat.{ℕ, ◌<◌, ◌≤◌}
 use mathlib.Core.Bool.{Bool, true, false}
 use mathlib.Core.Path.{◌≡◌, sym, ap, subst}
@@ -10,7 +10,7 @@ use denote.Param.Members.{Mut}
 use denote.Ref.{Bor}
 use lib.ListN.{length, get_or}
 use mathlib.Core.List.{List}
-use Rattle.std.proofs.lemmas.Iterator.{YieldsList-from_range, cases_from_any, first_from_Range}
+use Rattle.std.proofs.lemmas.Iterator.{YieldsList, YieldsList-from_range, IsFirst-from_position, cases_from_any, first_from_Range}
 use Rattle.std.proofs.lemmas.List.FromFn.{length-range_with_len, get_or-range_with_len}
 use Rattle.std.proofs.iter.Yields.{nat_range_steps}
 use Rattle.std.specs.Bool.{⊤, MatchBool}
@@ -79,3 +79,21 @@ any_lowest f s u p r ran held failed z =
     by false h =
         says false (lowest f s.end <? s.end)
         (omega (arith, none_fails f s.end (λ k l. said false (f k) (subst (λ (k : ℕ). false ≡ holds (f k)) (at k l) (h k 0 (omega arith) (omega (arith, length-range_with_len 0 s.end)))))))
+
+-- a search through a list
+stopped : (t : ℕ → Cond) (all : List ℕ) (r : Option ℕ)
+    → MatchOption r (AllWithin (λ x. false ≡ holds (t x)) all 0 (length all)) (λ i. (i < length all) × HoldsAt (λ x. true ≡ holds (t x)) all i × AllWithin (λ x. false ≡ holds (t x)) all 0 i)
+    → Lowest (λ k. t (get_or all k 0)) (length all) r
+stopped t all None h = none_fails (λ k. t (get_or all k 0)) (length all) (λ k l. said false _ (h k 0 (omega arith) l))
+stopped t all (Some i) h =
+    let f = λ (k : ℕ). t (get_or all k 0) in
+    (h.0, lowest_stop f (length all) i h.0 (none_fails f i (λ k l. said false (f k) (h.2 k 0 (omega arith) l))) (h.1 0))
+
+-- a call of `position`, by what it says of its run, where each call of the closure leaves it as it was and answers as t holds of the element
+pub positioned : {S A F : Type 0} {steps : S → Option A → S → Type 0} {v : A → ℕ} {g : Mut F (A × Unit {0}) Bool} {s : S} {all : List ℕ} (t : ℕ → Cond) (u : S) (p : F) (r : Option ℕ)
+    → (xs : List A) × (o : Option A) × (j : F) × YieldsThen steps s xs o u × FoldsTo (λ p x q. Called g p (x, tt) false q) p xs j × MatchOption o (r ≡ None) (λ x. (r ≡ Some (length xs)) × ((h : F) × Called g j (x, tt) true h))
+    → YieldsList steps v s all → ((x : A) (q : F) → Called g p (x, tt) true q → true ≡ holds (t (v x)))
+    → ((x : A) (q : F) → Called g p (x, tt) false q → (q ≡ p) × (false ≡ holds (t (v x))))
+    → Lowest (λ k. t (get_or all k 0)) (length all) r
+positioned {all = all} t u p r ran yields held failed =
+    stopped t all r (IsFirst-from_position u p r (λ x. true ≡ holds (t x)) (λ x. false ≡ holds (t x)) ran yields held failed)

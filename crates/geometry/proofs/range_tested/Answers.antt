@@ -9,10 +9,6 @@ pub returns-then-limit-start : goal.returns-then-limit-start
 unfolding range_rows
 returns-then-limit-start c = decides _ accepted _ _ (omega arith)
 
-pub returns-then-limit-start-2 : goal.returns-then-limit-start-2
-unfolding range_rows
-returns-then-limit-start-2 c = decides _ accepted _ _ (omega arith)
-
 pub returns-then-given-wanted_bytes : goal.returns-then-given-wanted_bytes
 unfolding range_rows
 returns-then-given-wanted_bytes c = decides _ accepted _ _ (omega arith)

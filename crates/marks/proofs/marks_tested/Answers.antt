@@ -1,14 +1,26 @@
 -- The lowest such mark decides the one row; where there is none it does not hold.
 use native.Mathlib.Omega.{arith}
-use Rattle.refusals.specs.Refusals.{accepted}
+use lib.ListN.{length}
+use borrow.Author.Tests.{tests}
+use borrow.Author.Rules.{rules}
+use Rattle.std.proofs.lemmas.Iterator.{YieldsList-from_slice}
+use Rattle.refusals.specs.Refusals.{holds, ◌<?◌, accepted}
 use Rattle.refusals.proofs.Exact.{decides, passes}
-use Rattle.marks.specs.Marks.{mark_rows}
+use Rattle.refusals.proofs.Searches.{Lowest, positioned}
+use Rattle.marks.specs.Marks.{neither, mark_rows}
 use Rattle.marks.proofs.marks_tested.Goals as goal
+use Rattle.marks.proofs.marks_tested.Goals.{After-position}
 
-pub returns-then-page-marks : goal.returns-then-page-marks
-unfolding mark_rows
-returns-then-page-marks c = decides _ (accepted) _ _ (omega arith)
+stopped : (c : After-position) → Lowest (neither c.args.marks.now) (length c.args.marks.now) c.position.result
+unfolding neither holds
+stopped c = positioned (λ x. 1 <? x) _ _ c.position.result c.position.ensures.ran (YieldsList-from_slice c.args.marks.now cc) (λ x q k. search (rules, tests)) (λ x q k. search (rules, tests))
 
-pub returns : goal.returns
+pub returns-in-Some : goal.returns-in-Some
 unfolding mark_rows
-returns c = passes _ (accepted) (omega arith)
+returns-in-Some c = let at = rw c.in-Some.is at (stopped (goal.at.returns-in-Some c).After-position) in
+    decides _ accepted _ _ (omega arith)
+
+pub returns-in-None : goal.returns-in-None
+unfolding mark_rows
+returns-in-None c = let at = rw c.in-None.is at (stopped (goal.at.returns-in-None c).After-position) in
+    passes _ accepted (omega arith)
