@@ -69,7 +69,7 @@ long_same false true l m e h = absurd (false≢true e)
 long_same false false l m e h = refl
 
 -- and a fault: of a thing that is not there no digest counts
-fault_of_same : (kind : ℕ) (f a b : Bool) (l m slot : List ℕ) → a ≡ b → (a ≡ true → l ≡ m)
+pub fault_of_same : (kind : ℕ) (f a b : Bool) (l m slot : List ℕ) → a ≡ b → (a ≡ true → l ≡ m)
     → fault_of f a (same (digest_of kind l) slot) ≡ fault_of f b (same (digest_of kind m) slot)
 unfolding fault_of
 fault_of_same kind f true true l m slot e h = rw (h refl)

@@ -20,3 +20,4 @@ pub mod Demand2
 pub mod SameRead
 pub mod Ignored
 pub mod Measured
+pub mod Unread

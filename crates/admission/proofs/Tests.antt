@@ -1,13 +1,16 @@
 -- The tests of each call, one group after another: the first that refuses stands, and where each passes the next decides. Assumes nothing.
-use Prim.Native.Nat.{ℕ, ◌<◌, ◌≤◌}
-use mathlib.Core.Bool.{cond}
+use Prim.Native.Nat.{ℕ, ◌≤◌, max}
+use mathlib.Core.Bool.{Bool, true, false, cond}
+use lib.Dec.{ltb}
+use borrow.Author.Tests.{ltb-true, ltb-false}
+use Rattle.std.proofs.Math.Nat.{le-max_left, le-max_right, max-le}
 use mathlib.Core.List.{List, ◌++◌}
 use mathlib.Core.Path.{◌≡◌, refl, sym, ap, ap₂, ◌∙◌}
 use native.Mathlib.Omega.{arith}
 use Rattle.std.proofs.Common.{append_assoc}
 use lib.ListN.{length}
 use Rattle.refusals.specs.declared.Answer.{Answer}
-use Rattle.refusals.specs.Refusals.{Row, refuse, accepted, first}
+use Rattle.refusals.specs.Refusals.{◌<?◌, pick, Row, refuse, accepted, first}
 use Rattle.refusals.proofs.Conditions.{pick_yes, pick_no}
 use Rattle.refusals.proofs.Exact.{Unused, decides, passes}
 use Rattle.refusals.proofs.Joined.{stops, goes, goes_on}
@@ -32,14 +35,17 @@ use Rattle.admission.specs.Recheck.{recheck_of, input_rows, call_rows}
 
 -- THE LONGEST SIDE FILE
 
-module _ (x : Sides) (a b : ℕ) (e : a ≡ cond x.info_there (length x.info) 0) (f : b ≡ cond x.resources_there (length x.resources) 0) where
-  pub longest_resources : a < b → b ≡ longest x
-  unfolding longest
-  longest_resources h = pick_yes _ _ _ b (rw (← e, ← f) h) f
-
-  pub longest_info : b ≤ a → a ≡ longest x
-  unfolding longest
-  longest_info h = pick_no _ _ _ a (rw (← e, ← f) h) e
+pub longest_is : (x : Sides) (a b : ℕ) → a ≡ cond x.info_there (length x.info) 0 → b ≡ cond x.resources_there (length x.resources) 0 → max a b ≡ longest x
+unfolding longest
+longest_is x a b e f = rw (← e, ← f) (by_test (ltb a b) refl)
+  where
+    by_test : (t : Bool) → ltb a b ≡ t → max a b ≡ pick (a <? b) b a
+    by_test true h =
+        let l = ltb-true a b h in
+        pick_yes (a <? b) b a (max a b) l (omega (arith, le-max_right a b, max-le {a = a} {b = b} {k = b} (omega arith) (omega arith)))
+    by_test false h =
+        let l = ltb-false a b h in
+        pick_no (a <? b) b a (max a b) l (omega (arith, le-max_left a b, max-le {a = a} {b = b} {k = a} (omega arith) (omega arith)))
 
 count_unused : (d : List ℕ) (marks : ℕ) → Unused (count_rows d marks) 0
 unfolding count_rows

@@ -12,3 +12,4 @@ pub mod Demand3
 pub mod Ignored
 pub mod Measured
 pub mod FileDemands
+pub mod Lent

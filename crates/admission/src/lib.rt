@@ -5,22 +5,24 @@
 // tables are specs/Check.antt, specs/File.antt and specs/Recheck.antt.
 #![tactic(auto)]
 
-ghost use Rattle.std.specs.Prelude.{cond, ◌++◌, ◌≡◌};
+mod range;
+
+ghost use Rattle.std.specs.Prelude.{◌++◌, ◌≡◌, cond, length};
 ghost use Rattle.refusals.specs.Refusals.{first, accepted};
+ghost use Rattle.refusals.specs.Named.{test_answer, place_answer};
 ghost use Rattle.layout.specs.CodeDirectory.{KnownKind, hash_type};
-ghost use Rattle.directory.specs.Pages.{code_limit, P};
-ghost use Rattle.geometry.specs.Pages.{range_rows};
-ghost use Rattle.marks.specs.Marks.{remarked, RangeHere};
-ghost use Rattle.slots.specs.Slots.{sides};
-ghost use Rattle.admission.specs.Input.{besides, lent, longest, slots_by, marks_by, ImageHere};
+ghost use Rattle.slots.specs.Lent.{is_there, bytes_of, sides_of};
+ghost use Rattle.admission.specs.Input.{longest, marks_by, ImageHere};
+ghost use Rattle.admission.specs.Lent.{beside_of, lent_of, file_lent, PagesOf};
 ghost use Rattle.admission.specs.Check.{image_rows, count_rows, check_tested, verdict_of, Checked};
-ghost use Rattle.admission.specs.File.{lent_file, start_rows, FileChecked};
+ghost use Rattle.admission.specs.File.{start_rows, FileChecked};
 ghost use Rattle.admission.specs.Parts.{origin_rows, later_tested, parts_tested, PartsChecked};
-ghost use Rattle.admission.specs.Recheck.{recheck_of, call_rows, Rechecked};
 
 use layout::directory::CodeDirectory;
-use refusals::Answer;
-use refusals::answers::answer;
+use marks::Pages;
+pub use range::recheck;
+use refusals::{Answer, Refusal};
+use slots::SideFiles;
 use trustcache::Launch;
 
 // What a whole check answers: a refusal number with its place, or 0 with the cache entry that lists the directory's hash.
@@ -31,32 +33,32 @@ pub struct Verdict {
     pub place: usize,
 }
 
+impl From<Result<usize, Refusal>> for Verdict {
+    ghost from_gives = { λ tested verdict. verdict ≡ verdict_of (place_answer tested) };
+
+    fn from(tested: Result<usize, Refusal>) -> Verdict {
+        let answer = Answer::from(tested);
+        Verdict {
+            number: answer.number,
+            place: answer.place,
+        }
+    }
+}
+
+// What a whole check is lent beside the image and the marks.
+#[derive(Clone, Copy)]
+pub struct Beside<'a> {
+    pub signature: &'a [u8],
+    pub cache: &'a [u8],
+    pub sides: SideFiles<'a>,
+    pub launch: Launch,
+}
+
 // The whole check: tests 1 to 31. A refusal but 31 leaves every mark.
-pub fn check(
-    signature: &[u8],
-    image: &[u8],
-    marks: &mut [u8],
-    cache: &[u8],
-    info_there: bool,
-    info: &[u8],
-    resources_there: bool,
-    resources: &[u8],
-    launch: Launch,
-) -> Verdict
-    ensures { Checked (lent signature.now image.now cache.now info_there info.now resources_there resources.now launch) marks.old result marks.new }
+pub fn check(image: &[u8], marks: &mut [u8], lent: Beside<'_>) -> Verdict
+    ensures { Checked (lent_of lent.entry image.now) marks.old result marks.new }
 {
-    check_parts(
-        signature,
-        image,
-        Origin::Apart,
-        marks,
-        cache,
-        info_there,
-        info,
-        resources_there,
-        resources,
-        launch,
-    )
+    Verdict::from(check_parts(image, Origin::Apart, marks, lent))
 }
 
 // The whole check of a Mach-O file: tests 36 to 40, 1 to 18, 41 and 20 to 31. The image is the file before the signature. A refusal but
@@ -65,48 +67,35 @@ pub fn check_file(
     file: &[u8],
     marks: &mut [u8],
     cache: &[u8],
-    info_there: bool,
-    info: &[u8],
-    resources_there: bool,
-    resources: &[u8],
+    sides: SideFiles<'_>,
     launch: Launch,
 ) -> Verdict
-    ensures { FileChecked (lent_file file.now cache.now info_there info.now resources_there resources.now launch) marks.old result marks.new }
+    ensures { FileChecked (file_lent file.now cache.now sides.entry launch) marks.old result marks.new }
 {
-    let walked = macho::tested(file);
-    if walked.number != 0 {
-        return verdict_of(walked);
-    }
-    let span = macho::signature_span(file);
+    Verdict::from(check_walked(file, marks, cache, sides, launch))
+}
+
+// The walk of the file, and where it passes the check of the signature and the image that it finds.
+fn check_walked(
+    file: &[u8],
+    marks: &mut [u8],
+    cache: &[u8],
+    sides: SideFiles<'_>,
+    launch: Launch,
+) -> Result<usize, Refusal>
+    ensures { FileChecked (file_lent file.now cache.now sides.entry launch) marks.old (verdict_of (place_answer result)) marks.new }
+{
+    let span = macho::signature_span(file)?;
     let command = span.command;
     let start = span.start;
     let end = span.end;
-    check_parts(
-        &file[start..end],
-        &file[0..start],
-        Origin::File(command),
-        marks,
+    let lent = Beside {
+        signature: &file[start..end],
         cache,
-        info_there,
-        info,
-        resources_there,
-        resources,
+        sides,
         launch,
-    )
-}
-
-// The recheck of `size` bytes from `start` on, lent the bytes of the pages met: tests 1 to 18, 20, 32, 33 and 34. A refusal by one of
-// them leaves every mark; else the marks of the pages met are written, and the lowest page marked 1 is 31.
-pub fn recheck(signature: &[u8], start: u64, size: u64, contents: &[u8], marks: &mut [u8]) -> Answer
-    ensures { Rechecked signature.now (recheck_of start size contents.now) marks.old result marks.new }
-{
-    let answer = recheck_tested(signature, start, size, contents, marks);
-    if answer.number != 0 {
-        return answer;
-    }
-    let d = superblob::blob_of(signature, CodeDirectory::TYPE);
-    rewrite_marks(d, start, size, contents, marks);
-    marks::judge(marks, 0)
+    };
+    check_parts(&file[0..start], Origin::File(command), marks, lent)
 }
 
 // Where the image of a whole check comes from: lent apart from its signature, or cut from a file before the signature, which the load
@@ -119,175 +108,80 @@ enum Origin {
 
 // The whole check from test 1 on.
 fn check_parts(
-    signature: &[u8],
     image: &[u8],
     origin: Origin,
     marks: &mut [u8],
-    cache: &[u8],
-    info_there: bool,
-    info: &[u8],
-    resources_there: bool,
-    resources: &[u8],
-    launch: Launch,
-) -> Verdict
-    ensures { PartsChecked origin (lent signature.now image.now cache.now info_there info.now resources_there resources.now launch) marks.old result marks.new }
+    lent: Beside<'_>,
+) -> Result<usize, Refusal>
+    ensures { PartsChecked origin (lent_of lent.entry image.now) marks.old (verdict_of (place_answer result)) marks.new }
 {
-    let tested = parts_tested(
-        signature,
-        image.len(),
-        origin,
-        marks.len(),
-        cache,
-        info_there,
-        info,
-        resources_there,
-        resources,
-        launch,
-    );
-    if tested.number != 0 {
-        return verdict_of(tested);
-    }
-    let d = superblob::blob_of(signature, CodeDirectory::TYPE);
+    let entry = parts_tested(lent, image.len(), origin, marks.len())?;
+    let d = superblob::blob_of(lent.signature, CodeDirectory::TYPE);
     write_marks(d, image, marks);
-    verdict_of(marks::judge(marks, tested.place))
+    marks::judge(marks, entry)
 }
 
-// A whole check's answer, made from an answer.
-fn verdict_of(answer: Answer) -> Verdict
-    ensures { result ≡ verdict_of answer }
-{
-    Verdict {
-        number: answer.number,
-        place: answer.place,
-    }
-}
-
-// Tests 1 to 30, by the lengths of the image and of the marks. The place of a 0 is the directory's entry.
+// Tests 1 to 30, by the lengths of the image and of the marks; where they pass, the directory's entry.
 pub fn check_tested(
-    signature: &[u8],
+    lent: Beside<'_>,
     image_length: usize,
     marks_length: usize,
-    cache: &[u8],
-    info_there: bool,
-    info: &[u8],
-    resources_there: bool,
-    resources: &[u8],
-    launch: Launch,
-) -> Answer
-    ensures { result ≡ check_tested (besides signature.now cache.now info_there info.now resources_there resources.now launch) image_length marks_length }
+) -> Result<usize, Refusal>
+    ensures { place_answer result ≡ check_tested (beside_of lent.entry) image_length marks_length }
 {
-    parts_tested(
-        signature,
-        image_length,
-        Origin::Apart,
-        marks_length,
-        cache,
-        info_there,
-        info,
-        resources_there,
-        resources,
-        launch,
-    )
+    parts_tested(lent, image_length, Origin::Apart, marks_length)
 }
 
-// Tests 1 to 18, then 19 or 41 by where the image comes from, then 20 to 30. The place of a 0 is the directory's entry.
+// Tests 1 to 18, then 19 or 41 by where the image comes from, then 20 to 30; where they pass, the directory's entry.
 fn parts_tested(
-    signature: &[u8],
+    lent: Beside<'_>,
     image_length: usize,
     origin: Origin,
     marks_length: usize,
-    cache: &[u8],
-    info_there: bool,
-    info: &[u8],
-    resources_there: bool,
-    resources: &[u8],
-    launch: Launch,
-) -> Answer
-    ensures { result ≡ parts_tested origin (besides signature.now cache.now info_there info.now resources_there resources.now launch) image_length marks_length }
+) -> Result<usize, Refusal>
+    ensures { place_answer result ≡ parts_tested origin (beside_of lent.entry) image_length marks_length }
 {
-    let side = longest_side(info_there, info, resources_there, resources);
-    let formed = directory::tested(signature, side);
-    if formed.number != 0 {
-        return formed;
-    }
-    let d = superblob::blob_of(signature, CodeDirectory::TYPE);
-    let sized = origin_tested(d, image_length, origin, marks_length);
-    if sized.number != 0 {
-        return sized;
-    }
-    later_tested(
-        signature,
-        d,
-        cache,
-        info_there,
-        info,
-        resources_there,
-        resources,
-        launch,
-    )
+    directory::tested(lent.signature, longest_side(lent.sides))?;
+    let d = superblob::blob_of(lent.signature, CodeDirectory::TYPE);
+    origin_tested(d, image_length, origin, marks_length)?;
+    later_tested(lent, d)
 }
 
 // Tests 21 to 30 of a signature with the directory d.
-fn later_tested(
-    signature: &[u8],
-    d: &[u8],
-    cache: &[u8],
-    info_there: bool,
-    info: &[u8],
-    resources_there: bool,
-    resources: &[u8],
-    launch: Launch,
-) -> Answer
+fn later_tested(lent: Beside<'_>, d: &[u8]) -> Result<usize, Refusal>
     requires { KnownKind (hash_type d.now) }
-    ensures { result ≡ later_tested (besides signature.now cache.now info_there info.now resources_there resources.now launch) d.now }
+    ensures { place_answer result ≡ later_tested (beside_of lent.entry) d.now }
 {
-    let matched = slots::tested(signature, d, info_there, info, resources_there, resources);
-    if matched.number != 0 {
-        return matched;
-    }
+    slots::tested(lent.signature, d, lent.sides)?;
     let kind = CodeDirectory::read(d).hash_type;
-    trustcache::tested(cache, kind, cdhash::cdhash(d), launch)
-}
-
-// Tests 1 to 18, 20, 32, 33 and 34. No side file is lent.
-fn recheck_tested(signature: &[u8], start: u64, size: u64, contents: &[u8], marks: &[u8]) -> Answer
-    ensures { result ≡ first (call_rows signature.now (recheck_of start size contents.now) marks.now) accepted }
-{
-    let formed = directory::tested(signature, 0);
-    if formed.number != 0 {
-        return formed;
-    }
-    let d = superblob::blob_of(signature, CodeDirectory::TYPE);
-    let counted = count_tested(d, marks.len());
-    if counted.number != 0 {
-        return counted;
-    }
-    let input = input_tested(d, start, size, contents.len());
-    if input.number != 0 {
-        return input;
-    }
-    marks::marks_tested(marks)
-}
-
-// The length of a side file, 0 where it is not there.
-fn side_length(there: bool, size: usize) -> usize
-    ensures { result ≡ cond there size 0 }
-{
-    if there { size } else { 0 }
+    trustcache::tested(lent.cache, kind, cdhash::cdhash(d), lent.launch)
 }
 
 // The length of the longest side file that is there, 0 where none is.
-fn longest_side(info_there: bool, info: &[u8], resources_there: bool, resources: &[u8]) -> usize
-    ensures { result ≡ longest (sides info_there info.now resources_there resources.now) }
+fn longest_side(sides: SideFiles<'_>) -> usize
+    ensures { result ≡ longest (sides_of sides.entry) }
 {
-    let a = side_length(info_there, info.len());
-    let b = side_length(resources_there, resources.len());
-    if a < b { b } else { a }
+    side_length(sides.info).max(side_length(sides.resources))
+}
+
+// The length of a side file, 0 where it is not there.
+fn side_length(side: Option<&[u8]>) -> usize
+    ensures { result ≡ cond (is_there side.entry) (length (bytes_of side.entry)) 0 }
+{
+    match side {
+        Some(file) => file.len(),
+        None => 0,
+    }
 }
 
 // Test 19 or 41 of the directory d, by where the image comes from, and test 20. In a file the signature starts where the image ends.
-fn origin_tested(d: &[u8], image_length: usize, origin: Origin, marks_length: usize) -> Answer
-    ensures { result ≡ first (origin_rows origin d.now image_length ++ count_rows d.now marks_length) accepted }
+fn origin_tested(
+    d: &[u8],
+    image_length: usize,
+    origin: Origin,
+    marks_length: usize,
+) -> Result<(), Refusal>
+    ensures { test_answer result ≡ first (origin_rows origin d.now image_length ++ count_rows d.now marks_length) accepted }
 {
     match origin {
         Origin::Apart => sizes_tested(d, image_length, marks_length),
@@ -296,56 +190,48 @@ fn origin_tested(d: &[u8], image_length: usize, origin: Origin, marks_length: us
 }
 
 // Tests 19 and 20 of the directory d, by the lengths of the image and of the marks.
-fn sizes_tested(d: &[u8], image_length: usize, marks_length: usize) -> Answer
-    ensures { result ≡ first (image_rows d.now image_length ++ count_rows d.now marks_length) accepted }
+fn sizes_tested(d: &[u8], image_length: usize, marks_length: usize) -> Result<(), Refusal>
+    ensures { test_answer result ≡ first (image_rows d.now image_length ++ count_rows d.now marks_length) accepted }
 {
     if image_length < directory::code_limit(d) {
-        return Answer {
-            number: 19,
-            place: 0,
-        };
+        return Err(Refusal::ImageLength);
     }
     count_tested(d, marks_length)
 }
 
 // Tests 41 and 20 of the directory d, by where the signature starts in the file, the position of the command that says so, and the length of
 // the marks.
-fn start_tested(d: &[u8], start: usize, command: usize, marks_length: usize) -> Answer
-    ensures { result ≡ first (start_rows d.now start command ++ count_rows d.now marks_length) accepted }
+fn start_tested(d: &[u8], start: usize, command: usize, marks_length: usize) -> Result<(), Refusal>
+    ensures { test_answer result ≡ first (start_rows d.now start command ++ count_rows d.now marks_length) accepted }
 {
     if start != directory::code_limit(d) {
-        return answer(41, command);
+        return Err(Refusal::SignatureStart(command));
     }
     count_tested(d, marks_length)
 }
 
 // Test 20 of the directory d, by the length of the marks.
-fn count_tested(d: &[u8], marks_length: usize) -> Answer
-    ensures { result ≡ first (count_rows d.now marks_length) accepted }
+fn count_tested(d: &[u8], marks_length: usize) -> Result<(), Refusal>
+    ensures { test_answer result ≡ first (count_rows d.now marks_length) accepted }
 {
     if marks_length != CodeDirectory::read(d).code_slots {
-        return Answer {
-            number: 20,
-            place: 0,
-        };
+        return Err(Refusal::MarksLength);
     }
-    Answer {
-        number: 0,
-        place: 0,
-    }
+    Ok(())
 }
 
-// Tests 32 and 33 of the directory d: the range, and how many bytes are given for it.
-fn input_tested(d: &[u8], start: u64, size: u64, given: usize) -> Answer
-    ensures { result ≡ first (range_rows (P d.now) (code_limit d.now) start size given) accepted }
+// The pages of the directory d, and bytes that begin where page `from` begins.
+fn pages_of<'a>(d: &'a [u8], from: usize, bytes: &'a [u8]) -> Pages<'a>
+    ensures { PagesOf d.now from bytes.now result }
 {
-    geometry::range_tested(
-        directory::page_size(d),
-        directory::code_limit(d),
-        start,
-        size,
-        given,
-    )
+    Pages {
+        p: directory::page_size(d),
+        limit: directory::code_limit(d),
+        kind: CodeDirectory::read(d).hash_type,
+        slots: directory::code_slots(d),
+        from,
+        bytes,
+    }
 }
 
 // Hashes every page of the image and writes its mark.
@@ -353,33 +239,5 @@ fn write_marks(d: &[u8], image: &[u8], marks: &mut [u8])
     requires { ImageHere d.now image.now marks.old }
     ensures { marks.new ≡ marks_by d.now image.now }
 {
-    marks::mark_pages(
-        directory::page_size(d),
-        directory::code_limit(d),
-        CodeDirectory::read(d).hash_type,
-        directory::code_slots(d),
-        0,
-        image,
-        marks,
-    );
-}
-
-// Hashes the pages that a range meets and writes their marks. No other mark is touched.
-fn rewrite_marks(d: &[u8], start: u64, size: u64, contents: &[u8], marks: &mut [u8])
-    requires { RangeHere (P d.now) (code_limit d.now) (slots_by d.now) start size contents.now marks.old }
-    ensures { marks.new ≡ remarked (P d.now) (code_limit d.now) (slots_by d.now) start size contents.now marks.old }
-{
-    let p = directory::page_size(d);
-    let limit = directory::code_limit(d);
-    let first = geometry::first_met(p, start as usize, size as usize);
-    let end = geometry::end_met(p, start as usize, size as usize);
-    marks::mark_pages(
-        p,
-        limit,
-        CodeDirectory::read(d).hash_type,
-        directory::code_slots(d),
-        first,
-        contents,
-        &mut marks[first..end],
-    );
+    pages_of(d, 0, image).mark(marks);
 }

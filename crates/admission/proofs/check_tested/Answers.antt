@@ -3,6 +3,5 @@ use mathlib.Core.Path.{◌∙◌}
 use Rattle.admission.proofs.Calls.{tested_apart}
 use Rattle.admission.proofs.check_tested.Goals as goal
 
--- src/lib.rt:163:1
 pub returns : goal.returns
 returns c = c.parts_tested.ensures ∙ tested_apart _ _ _

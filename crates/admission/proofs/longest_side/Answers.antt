@@ -1,9 +1,7 @@
--- The longer of the two lengths, by one comparison.
-use Rattle.admission.proofs.Tests.{longest_resources, longest_info}
+-- The longer of the two lengths.
+use mathlib.Core.Path.{◌∙◌}
+use Rattle.admission.proofs.Tests.{longest_is}
 use Rattle.admission.proofs.longest_side.Goals as goal
 
-pub returns-then-a-b : goal.returns-then-a-b
-returns-then-a-b c = longest_resources _ _ _ c.side_length-a.ensures c.side_length-b.ensures c.if-a-b.true
-
-pub returns-else-a-b : goal.returns-else-a-b
-returns-else-a-b c = longest_info _ _ _ c.side_length-a.ensures c.side_length-b.ensures c.if-a-b.false
+pub returns : goal.returns
+returns c = c.max.ensures ∙ longest_is _ _ _ c.side_length.ensures c.side_length-2.ensures

@@ -1,5 +1,4 @@
 -- Test 41 by the code limit that is read, and where it passes test 20.
-use mathlib.Core.Path.{◌∙◌}
 use native.Mathlib.Omega.{arith}
 use Rattle.refusals.specs.Refusals.{accepted}
 use Rattle.refusals.proofs.Exact.{decides}
@@ -10,7 +9,7 @@ use Rattle.admission.proofs.start_tested.Goals as goal
 
 pub returns-then-start-code_limit : goal.returns-then-start-code_limit
 unfolding start_rows count_rows
-returns-then-start-code_limit c = c.answer.ensures ∙ decides _ accepted _ _ (omega arith)
+returns-then-start-code_limit c = decides _ accepted _ _ (omega arith)
 
 pub returns : goal.returns
 returns c = starts_there _ _ _ _ _ _ c.code_limit.ensures c.if-start-code_limit.false c.count_tested.ensures
