@@ -73,11 +73,10 @@ pub fn check_file(
 ) -> Verdict
     ensures { FileChecked (lent_file file.now cache.now info_there info.now resources_there resources.now launch) marks.old result marks.new }
 {
-    let walked = macho::tested(file);
-    if walked.number != 0 {
-        return verdict_of(walked);
-    }
-    let span = macho::signature_span(file);
+    let span = match macho::signature_span(file) {
+        Ok(span) => span,
+        Err(refusal) => return verdict_of(Answer::from(refusal)),
+    };
     let command = span.command;
     let start = span.start;
     let end = span.end;
