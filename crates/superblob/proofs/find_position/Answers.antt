@@ -10,5 +10,5 @@ use Rattle.superblob.proofs.find_position.Goals as goal
 pub returns : goal.returns
 unfolding position of_type holds
 returns c =
-    finds (of_type c.args.sig.now c.args.slot_type) _ _ _ _ c.find.result c.find.ensures.ran (λ x q k. search (rules, tests)) (λ x q k. search (rules, tests)) refl
+    finds (of_type c.args.sig.now c.args.slot_type) _ _ _ _ c.find.result c.find.ensures.ran (λ x b q k. search (rules, tests)) refl
     c.read-n.ensures.count_is
