@@ -81,29 +81,17 @@ pub fn blob_of<'a>(sig: &'a [u8], slot_type: u32) -> &'a [u8]
 fn head_tested(sig: &[u8], side: usize) -> Result<(), Refusal>
     ensures { test_answer result ≡ first (head_rows side sig.now) accepted }
 {
-    if sig.len() < SuperBlob::HEAD {
-        return Err(Refusal::InputLength);
-    }
-    if MOST_SIGNATURE < sig.len() {
-        return Err(Refusal::InputLength);
-    }
-    if MOST_SIDE < side {
+    if sig.len() < SuperBlob::HEAD || MOST_SIGNATURE < sig.len() || MOST_SIDE < side {
         return Err(Refusal::InputLength);
     }
     let head = SuperBlob::read(sig);
     if head.magic != SuperBlob::MAGIC {
         return Err(Refusal::SuperBlobMagic);
     }
-    if head.count == 0 {
+    if head.count == 0 || MOST_BLOBS < head.count {
         return Err(Refusal::BlobCount);
     }
-    if MOST_BLOBS < head.count {
-        return Err(Refusal::BlobCount);
-    }
-    if head.length < index_end(sig) {
-        return Err(Refusal::SuperBlobLength);
-    }
-    if sig.len() < head.length {
+    if head.length < index_end(sig) || sig.len() < head.length {
         return Err(Refusal::SuperBlobLength);
     }
     Ok(())
