@@ -51,19 +51,18 @@ search_lowest f n (Some i) h = (h.1, found_lowest f n (Some i) h)
 -- what a call of `find` over a range says of the lowest position
 pub finds : {F : Type 0} {g : Mut F (Bor ℕ × Unit {0}) Bool} (f : ℕ → Cond) (n : ℕ) (s u : Range ℕ) (p : F) (r : Option ℕ)
     → (xs : List ℕ) × (j : F) × YieldsThen nat_range_steps s xs r u × FoldsTo (λ p x q. CalledAt g p x false q) p xs j × MatchOption r ⊤ (λ x. (h : F) × CalledAt g j x true h)
-    → ((x : ℕ) (q : F) → CalledAt g p x true q → true ≡ holds (f x))
-    → ((x : ℕ) (q : F) → CalledAt g p x false q → (q ≡ p) × (false ≡ holds (f x)))
+    → ((x : ℕ) (b : Bool) (q : F) → CalledAt g p x b q → (q ≡ p) × (b ≡ holds (f x)))
     → s.start ≡ 0 → s.end ≡ n → Lowest f n r
-finds f n s u p r ran held failed z e = subst (λ (n : ℕ). Lowest f n r) e (search_lowest f s.end r (searched f s u p r ran held failed z))
+finds f n s u p r ran answers z e =
+    subst (λ (n : ℕ). Lowest f n r) e (search_lowest f s.end r (searched f s u p r ran (λ x q k. (answers x true q k).1) (λ x q k. answers x false q k) z))
 
 -- what `any` says of a range: that a search for the lowest position finds one
 pub any_lowest : {F : Type 0} {g : Mut F (ℕ × Unit {0}) Bool} (f : ℕ → Cond) (s u : Range ℕ) (p : F) (r : Bool)
     → (xs : List ℕ) × (o : Option ℕ) × (j : F) × YieldsThen nat_range_steps s xs o u × FoldsTo (λ p x q. Called g p (x, tt) false q) p xs j × MatchOption o (r ≡ false) (λ x. (r ≡ true) × ((h : F) × Called g j (x, tt) true h))
-    → ((x : ℕ) (q : F) → Called g p (x, tt) true q → true ≡ holds (f x))
-    → ((x : ℕ) (q : F) → Called g p (x, tt) false q → (q ≡ p) × (false ≡ holds (f x)))
+    → ((x : ℕ) (b : Bool) (q : F) → Called g p (x, tt) b q → (q ≡ p) × (b ≡ holds (f x)))
     → s.start ≡ 0 → r ≡ holds (lowest f s.end <? s.end)
-any_lowest f s u p r ran held failed z =
-    by r (cases_from_any u p r (λ k. true ≡ holds (f k)) (λ k. false ≡ holds (f k)) ran (YieldsList-from_range 0 s.end s.end (ap (λ (a : ℕ). record { start = a; end = s.end }) z) (omega arith)) held failed)
+any_lowest f s u p r ran answers z =
+    by r (cases_from_any u p r (λ k. true ≡ holds (f k)) (λ k. false ≡ holds (f k)) ran (YieldsList-from_range 0 s.end s.end (ap (λ (a : ℕ). record { start = a; end = s.end }) z) (omega arith)) (λ x q k. (answers x true q k).1) (λ x q k. answers x false q k))
   where
     all : List ℕ
     all = range_with_len 0 s.end

@@ -1,6 +1,6 @@
 -- Tests 1 to 9 of document 01, and the lookup of a blob. `s` is the lent signature, and `side` the length of the longest side file
 -- that is there, 0 where none is.
-use Rattle.std.specs.Prelude.{ℕ, Option, MatchOption, ◌+◌, ◌-◌, ◌≤◌, List, [], ◌∷◌, ◌++◌, ◌≡◌, length, take, drop}
+use Rattle.std.specs.Prelude.{ℕ, Option, MatchOption, ◌+◌, ◌-◌, ◌<◌, ◌≤◌, List, [], ◌∷◌, ◌++◌, ◌≡◌, length, take, drop}
 use Rattle.std.specs.Option.{is_some}
 use Rattle.std.specs.declared.ops.Range.{Range as Span}
 use Rattle.refusals.specs.Ranges.{Range, range, lookup}
@@ -101,6 +101,10 @@ of_type s t i = type_at s i ≡? t
 -- the position of a type; the count where the index has none
 unfoldable pub position : List ℕ → ℕ → ℕ
 position s t = lowest (of_type s t) (count s)
+
+-- the same as the code says it: none, or that position
+abbrev pub PositionIn : List ℕ → ℕ → Option ℕ → Type 0
+PositionIn s t r = MatchOption r (position s t ≡ count s) (λ i. (i < count s) × (i ≡ position s t))
 
 -- the index has the type
 unfoldable pub has : List ℕ → ℕ → Cond

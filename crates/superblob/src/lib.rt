@@ -10,7 +10,7 @@ ghost use Rattle.std.specs.Prelude.{◌≡◌, ◌<◌};
 ghost use Rattle.refusals.specs.Refusals.{holds, first, accepted};
 ghost use Rattle.refusals.specs.Named.{test_answer};
 ghost use Rattle.layout.specs.SuperBlob.{index_end, type_at, offset_at, blob_magic, blob_length};
-ghost use Rattle.superblob.specs.Rows.{magic_of, repeated, outside, shared, overlaps, head_rows, index_rows, rows, position, has, start_of, blob_of, Located, blob};
+ghost use Rattle.superblob.specs.Rows.{magic_of, repeated, outside, shared, overlaps, head_rows, index_rows, rows, position, PositionIn, has, start_of, blob_of, Located, blob};
 
 use layout::directory::CodeDirectory;
 use layout::parts::part;
@@ -40,10 +40,7 @@ pub fn find_span(sig: &[u8], slot_type: u32) -> Option<Range<usize>>
     ensures { Located sig.now slot_type result }
 {
     tested(sig, 0).ok()?;
-    let i = position_of(sig, slot_type as usize);
-    if SuperBlob::read(sig).count <= i {
-        return None;
-    }
+    let i = find_position(sig, slot_type as usize)?;
     let start = offset_at(sig, i);
     Some(start..start + length_at(sig, i))
 }
@@ -62,7 +59,7 @@ pub fn find<'a>(sig: &'a [u8], slot_type: u32) -> &'a [u8]
 pub fn has(sig: &[u8], slot_type: u32) -> bool
     ensures { result ≡ holds (has sig.now slot_type) }
 {
-    position_of(sig, slot_type as usize) < SuperBlob::read(sig).count
+    find_position(sig, slot_type as usize).is_some()
 }
 
 // Where the blob at a type's position of the index starts.
@@ -84,29 +81,17 @@ pub fn blob_of<'a>(sig: &'a [u8], slot_type: u32) -> &'a [u8]
 fn head_tested(sig: &[u8], side: usize) -> Result<(), Refusal>
     ensures { test_answer result ≡ first (head_rows side sig.now) accepted }
 {
-    if sig.len() < SuperBlob::HEAD {
-        return Err(Refusal::InputLength);
-    }
-    if MOST_SIGNATURE < sig.len() {
-        return Err(Refusal::InputLength);
-    }
-    if MOST_SIDE < side {
+    if sig.len() < SuperBlob::HEAD || MOST_SIGNATURE < sig.len() || MOST_SIDE < side {
         return Err(Refusal::InputLength);
     }
     let head = SuperBlob::read(sig);
     if head.magic != SuperBlob::MAGIC {
         return Err(Refusal::SuperBlobMagic);
     }
-    if head.count == 0 {
+    if head.count == 0 || MOST_BLOBS < head.count {
         return Err(Refusal::BlobCount);
     }
-    if MOST_BLOBS < head.count {
-        return Err(Refusal::BlobCount);
-    }
-    if head.length < index_end(sig) {
-        return Err(Refusal::SuperBlobLength);
-    }
-    if sig.len() < head.length {
+    if head.length < index_end(sig) || sig.len() < head.length {
         return Err(Refusal::SuperBlobLength);
     }
     Ok(())
@@ -171,15 +156,22 @@ fn lies_outside(sig: &[u8], i: usize) -> bool
         || length < Blob::HEAD
 }
 
-// The lowest position that has the type; the count where there is none, whose entry `start_of` and `blob_of` then read.
+// The lowest position that has the type; the count where there is none, since `start_of` and `blob_of` take any bytes.
 fn position_of(sig: &[u8], slot_type: usize) -> usize
     ensures { result ≡ position sig.now slot_type }
 {
-    let n = SuperBlob::read(sig).count;
-    (0..n).find(|&i| type_at(sig, i) == slot_type).unwrap_or(n)
+    find_position(sig, slot_type).unwrap_or(SuperBlob::read(sig).count)
 }
 
-// The magic that a slot type asks for; 0 where the type is not known.
+// The lowest position that has the type.
+fn find_position(sig: &[u8], slot_type: usize) -> Option<usize>
+    ensures { PositionIn sig.now slot_type result }
+{
+    let n = SuperBlob::read(sig).count;
+    (0..n).find(|&i| type_at(sig, i) == slot_type)
+}
+
+// The magic that a slot type asks for; 0 where the type is not known, as test 8 compares at each position, also there.
 fn magic_of(slot_type: usize) -> usize
     ensures { result ≡ magic_of slot_type }
 {

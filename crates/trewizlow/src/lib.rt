@@ -57,13 +57,22 @@ pub struct FileSignature {
 pub fn trewizlow_file_read(file: &[u8]) -> FileSignature
     ensures { result ≡ file_signature file.now }
 {
-    let answer = macho::tested(file);
-    let part = macho::signature_span(file);
-    FileSignature {
-        number: answer.number,
-        place: answer.place,
-        start: part.start,
-        length: part.end - part.start,
+    match macho::signature_span(file) {
+        Ok(part) => FileSignature {
+            number: 0,
+            place: 0,
+            start: part.start,
+            length: part.end - part.start,
+        },
+        Err(refusal) => {
+            let answer = Answer::from(refusal);
+            FileSignature {
+                number: answer.number,
+                place: answer.place,
+                start: 0,
+                length: 0,
+            }
+        }
     }
 }
 
@@ -118,8 +127,8 @@ pub struct BlobPart {
 pub fn trewizlow_find(signature: &[u8], slot_type: u32) -> BlobPart
     ensures { result ≡ blob_part signature.now slot_type }
 {
-    let answer = superblob::tested(signature, 0);
-    let span = superblob::find_span(signature, slot_type);
+    let answer = Answer::from(superblob::tested(signature, 0));
+    let span = superblob::find_span(signature, slot_type).unwrap_or(0..0);
     BlobPart {
         number: answer.number,
         place: answer.place,

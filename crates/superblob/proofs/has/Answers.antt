@@ -1,8 +1,7 @@
--- The position of the type against the count: by definition.
-use Rattle.refusals.specs.Refusals.{holds}
-use Rattle.superblob.specs.Rows.{has}
+-- The index has the type where the search finds a position.
+use mathlib.Core.Path.{◌∙◌}
+use Rattle.superblob.proofs.Spans.{has_found}
 use Rattle.superblob.proofs.has.Goals as goal
 
 pub returns : goal.returns
-unfolding has holds
-returns c = cc
+returns c = c.is_some.ensures ∙ has_found _ _ _ c.find_position.ensures

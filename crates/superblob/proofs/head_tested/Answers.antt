@@ -9,14 +9,6 @@ pub returns-then-sig-lt-HEAD : goal.returns-then-sig-lt-HEAD
 unfolding head_rows
 returns-then-sig-lt-HEAD c = decides _ accepted _ _ (omega arith)
 
-pub returns-then-sig-gt-MOST_SIGNATURE : goal.returns-then-sig-gt-MOST_SIGNATURE
-unfolding head_rows
-returns-then-sig-gt-MOST_SIGNATURE c = decides _ accepted _ _ (omega arith)
-
-pub returns-then-side-gt-MOST_SIDE : goal.returns-then-side-gt-MOST_SIDE
-unfolding head_rows
-returns-then-side-gt-MOST_SIDE c = decides _ accepted _ _ (omega arith)
-
 pub returns-then-head-ne-MAGIC : goal.returns-then-head-ne-MAGIC
 unfolding head_rows
 returns-then-head-ne-MAGIC c = decides _ accepted _ _ (omega arith)
@@ -25,17 +17,9 @@ pub returns-then-head-eq0 : goal.returns-then-head-eq0
 unfolding head_rows
 returns-then-head-eq0 c = decides _ accepted _ _ (omega arith)
 
-pub returns-then-head-gt-MOST_BLOBS : goal.returns-then-head-gt-MOST_BLOBS
-unfolding head_rows
-returns-then-head-gt-MOST_BLOBS c = decides _ accepted _ _ (omega arith)
-
 pub returns-then-head-index_end : goal.returns-then-head-index_end
 unfolding head_rows
 returns-then-head-index_end c = decides _ accepted _ _ (omega arith)
-
-pub returns-then-sig-head : goal.returns-then-sig-head
-unfolding head_rows
-returns-then-sig-head c = decides _ accepted _ _ (omega arith)
 
 pub returns : goal.returns
 unfolding head_rows

@@ -8,4 +8,4 @@ use Rattle.superblob.proofs.overlaps_earlier.Goals as goal
 
 pub returns : goal.returns
 unfolding overlaps
-returns c = any_lowest (shared c.args.sig.now c.args.i) _ _ _ _ c.any.ensures.ran (λ x q k. search (rules, tests)) (λ x q k. search (rules, tests)) refl
+returns c = any_lowest (shared c.args.sig.now c.args.i) _ _ _ _ c.any.ensures.ran (λ x b q k. search (rules, tests)) refl

@@ -9,4 +9,4 @@ use Rattle.superblob.proofs.repeats_type.Goals as goal
 
 pub returns : goal.returns
 unfolding repeated same_type holds
-returns c = any_lowest (same_type c.args.sig.now c.args.i) _ _ _ _ c.any.ensures.ran (λ x q k. search (rules, tests)) (λ x q k. search (rules, tests)) refl
+returns c = any_lowest (same_type c.args.sig.now c.args.i) _ _ _ _ c.any.ensures.ran (λ x b q k. search (rules, tests)) refl
