@@ -14,7 +14,10 @@ use Rattle.layout.specs.TrustCache.{cdhash_length, hash_at}
 use Rattle.refusals.specs.Refusals.{holds, lowest}
 use Rattle.refusals.proofs.Conditions.{says, said, pick_yes, pick_no}
 use Rattle.refusals.proofs.Positions.{lowest_before, lowest_fails, none_fails, first_fails}
-use Rattle.trustcache.specs.Order.{differs_at, first_differing, below, equal, above, order, FirstLess, Below, OrderPlainly}
+use Rattle.std.specs.declared.cmp.Ordering.{Ordering}
+use Rattle.std.specs.declared.cmp.Ordering.TheVariants.{Less, Equal, Greater}
+use Rattle.std.specs.Ordering.{is_le}
+use Rattle.trustcache.specs.Order.{order_number, differs_at, first_differing, below, equal, above, order, FirstLess, Below, OrderPlainly}
 use Rattle.trustcache.specs.Rows.{not_above}
 
 -- the first n bytes are the same
@@ -189,11 +192,8 @@ first_is_above c i e = says false (not_above c i) (λ z. absurd (omega arith))
 pub compared : (c x y : List ℕ) (i j r : ℕ) → x ≡ hash_at c i → y ≡ hash_at c j → r ≡ order x y → r ≡ order (hash_at c i) (hash_at c j)
 compared c x y i j r e f o = o ∙ ap (λ (l : List ℕ). order l y) e ∙ ap (order (hash_at c i)) f
 
-module _ (c : List ℕ) (i r : ℕ) (o : r ≡ order (hash_at c i) (hash_at c (i - 1))) where
-  pub is_above : r ≡ above → false ≡ holds (not_above c i)
-  unfolding not_above
-  is_above q = says false (not_above c i) (λ z. sym o ∙ q)
-
-  pub is_not_above : (i ≡ 0 → ⊥) → (r ≡ above → ⊥) → true ≡ holds (not_above c i)
-  unfolding not_above
-  is_not_above n q = says true (not_above c i) (omega arith, λ z. q (o ∙ z))
+pub not_above_is : (c : List ℕ) (i : ℕ) (o : Ordering) → order_number o ≡ order (hash_at c i) (hash_at c (i - 1)) → (i ≡ 0 → ⊥) → is_le o ≡ holds (not_above c i)
+unfolding not_above
+not_above_is c i Less e n = says true (not_above c i) (omega arith, λ z. omega (arith, e, z))
+not_above_is c i Equal e n = says true (not_above c i) (omega arith, λ z. omega (arith, e, z))
+not_above_is c i Greater e n = says false (not_above c i) (λ z. sym e)
