@@ -1,6 +1,6 @@
 -- The order of hashes, and how a comparison byte by byte finds it. Two hashes are equal, or one is below the other.
 use Prim.Native.Nat.{ℕ, ◌+◌, ◌-◌, ◌<◌, ◌≤◌}
-use mathlib.Core.Bool.{Bool, true, false}
+use mathlib.Core.Bool.{Bool, true, false, true≢false, false≢true}
 use mathlib.Core.List.{List}
 use mathlib.Core.Logic.{◌⊎◌, inl, inr, ⊎_elim}
 use mathlib.Core.Path.{◌≡◌, refl, sym, ap, subst, ◌∙◌}
@@ -16,7 +16,8 @@ use Rattle.refusals.proofs.Conditions.{says, said, pick_yes, pick_no}
 use Rattle.refusals.proofs.Positions.{lowest_before, lowest_fails, none_fails, first_fails}
 use Rattle.std.specs.declared.cmp.Ordering.{Ordering}
 use Rattle.std.specs.declared.cmp.Ordering.TheVariants.{Less, Equal, Greater}
-use Rattle.std.specs.Ordering.{is_le}
+use Rattle.std.specs.Ordering.{is_le, is_ne, nat_cmp}
+use Rattle.std.proofs.lemmas.Cmp.{ranked}
 use Rattle.trustcache.specs.Order.{order_number, differs_at, first_differing, below, equal, above, order, FirstLess, Below, OrderPlainly}
 use Rattle.trustcache.specs.Rows.{not_above}
 
@@ -170,14 +171,25 @@ module _ (x y : List ℕ) (i a b : ℕ) (s : SameTo i x y) (p : a ≡ get_or x (
   right : b ≡ get_or y i 0
   right = q ∙ ap (λ (k : ℕ). get_or y k 0) (zero-add i)
 
-  pub compare_below : i < cdhash_length → a < b → below ≡ order x y
+  compare_below : i < cdhash_length → a < b → below ≡ order x y
   compare_below l h = order_below x y (less_at x y i s l (omega (arith, left, right)))
 
-  pub compare_above : i < cdhash_length → b < a → above ≡ order x y
+  compare_above : i < cdhash_length → b < a → above ≡ order x y
   compare_above l h = order_above x y (less_at y x i (same_back x y i s) l (omega (arith, left, right)))
 
-  pub compare_more : a ≡ b → SameTo (i + 1) x y
+  compare_more : a ≡ b → SameTo (i + 1) x y
   compare_more h = same_more x y i s (sym left ∙ h ∙ right)
+
+  -- .. by one comparison of the two
+  pub compare_stops : i < cdhash_length → (o : Ordering) → o ≡ nat_cmp a b → is_ne o ≡ true → order_number o ≡ order x y
+  compare_stops l Less e n = compare_below l (ranked a b Less e)
+  compare_stops l Equal e n = absurd (false≢true n)
+  compare_stops l Greater e n = compare_above l (ranked a b Greater e)
+
+  pub compare_goes : (o : Ordering) → o ≡ nat_cmp a b → is_ne o ≡ false → SameTo (i + 1) x y
+  compare_goes Less e n = absurd (true≢false n)
+  compare_goes Equal e n = compare_more (ranked a b Equal e)
+  compare_goes Greater e n = absurd (true≢false n)
 
 pub compare_equal : (x y : List ℕ) (i : ℕ) → i ≡ cdhash_length → SameTo i x y → equal ≡ order x y
 compare_equal x y i n s = order_same x y (subst (λ (k : ℕ). SameTo k x y) n s)

@@ -24,13 +24,9 @@ pub fn compare(x: &[u8], y: &[u8]) -> Ordering
     ensures { order_number result ≡ order x.now y.now }
 {
     for i in 0..CacheEntry::HASH {
-        let a = endian::byte(x, 0, i);
-        let b = endian::byte(y, 0, i);
-        if a < b {
-            return Ordering::Less;
-        }
-        if b < a {
-            return Ordering::Greater;
+        let order = endian::byte(x, 0, i).cmp(&endian::byte(y, 0, i));
+        if order.is_ne() {
+            return order;
         }
     }
     Ordering::Equal
@@ -54,13 +50,9 @@ fn compare_entries(c: &[u8], i: usize, j: usize) -> Ordering
     let x = CacheHead::HEAD + CacheEntry::SIZE * i;
     let y = CacheHead::HEAD + CacheEntry::SIZE * j;
     for k in 0..NUMBERS {
-        let a = number_at(c, x + WIDTH * k);
-        let b = number_at(c, y + WIDTH * k);
-        if a < b {
-            return Ordering::Less;
-        }
-        if b < a {
-            return Ordering::Greater;
+        let order = number_at(c, x + WIDTH * k).cmp(&number_at(c, y + WIDTH * k));
+        if order.is_ne() {
+            return order;
         }
     }
     Ordering::Equal
@@ -72,10 +64,8 @@ fn compare_to_previous(c: &[u8], i: usize) -> Ordering
     requires { 0 < i }
     ensures { order_number result ≡ order (hash_at c.now i) (hash_at c.now (i - 1)) }
 {
-    if CacheHead::HEAD <= c.len() {
-        if i < (c.len() - CacheHead::HEAD) / CacheEntry::SIZE {
-            return compare_entries(c, i, i - 1);
-        }
+    if CacheHead::HEAD <= c.len() && i < (c.len() - CacheHead::HEAD) / CacheEntry::SIZE {
+        return compare_entries(c, i, i - 1);
     }
     compare(hash_of(c, i), hash_of(c, i - 1))
 }
