@@ -96,3 +96,8 @@ pub positioned : {S A F : Type 0} {steps : S → Option A → S → Type 0} {v :
     → Lowest (λ k. t (get_or all k 0)) (length all) r
 positioned {all = all} t u p r ran yields held failed =
     stopped t all r (IsFirst-from_position u p r (λ x. true ≡ holds (t x)) (λ x. false ≡ holds (t x)) ran yields held failed)
+
+-- a search through a range stops where one through elements does
+pub found_stops : (f : ℕ → Cond) (n : ℕ) (r : Option ℕ) → Found f n r → Stopped f n r
+found_stops f n None h = none_fails f n (λ k l. said false (f k) (h k (omega arith) l))
+found_stops f n (Some i) h = (h.1, sym (found_lowest f n (Some i) h))

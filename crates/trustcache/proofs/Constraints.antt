@@ -1,11 +1,12 @@
 -- The launch constraints: the conditions are the negations of the paper's sentences, and tests 28 to 30 pass exactly where the category allows
 -- the launch.
-use Prim.Native.Nat.{ℕ, zero, suc, ◌≤◌}
+use Prim.Native.Nat.{ℕ, zero, suc, ◌≤◌, ◌<◌}
 use mathlib.Core.Bool.{Bool, true, false, not, ◌&&◌, ◌||◌, false≢true}
 use mathlib.Core.Logic.{inl, inr}
-use mathlib.Core.Path.{◌≡◌, refl}
+use mathlib.Core.Path.{◌≡◌, refl, ◌∙◌}
 use native.Mathlib.Omega.{arith}
 use lib.Dec.{eqb}
+use borrow.Author.Tests.{eqb-true, eqb-false}
 use Rattle.refusals.specs.Refusals.{holds, Passes}
 use Rattle.trustcache.specs.declared.launch.Launch.{Launch}
 use Rattle.trustcache.specs.Rows.{highest_category}
@@ -37,6 +38,13 @@ self_plainly facts =
 pub parent_plainly : ParentPlainly
 unfolding holds parent_fails
 parent_plainly facts = flag_off facts.parent_is_init
+
+-- a flag as the code tests it
+pub unset : (b : Bool) → not b ≡ true → flag b ≡ 0
+unset b e = eqb-true _ _ (flag_off b ∙ e)
+
+pub set : (b : Bool) → not b ≡ false → 0 < flag b
+set b e = let h = eqb-false _ _ (flag_off b ∙ e) in omega arith
 
 -- THE RULE
 

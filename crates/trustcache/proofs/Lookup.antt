@@ -12,7 +12,7 @@ use Rattle.layout.specs.TrustCache.{entry_count, hash_at}
 use Rattle.refusals.specs.Refusals.{lowest}
 use Rattle.refusals.proofs.Conditions.{said}
 use Rattle.refusals.proofs.Positions.{lowest_fails, none_fails, first_fails}
-use Rattle.trustcache.specs.Order.{below, equal, order, Below}
+use Rattle.trustcache.specs.Order.{below, equal, above, order, Below}
 use Rattle.trustcache.specs.Rows.{has_hash, entry_of}
 use Rattle.trustcache.specs.Lookup.{EntryFound}
 use Rattle.trustcache.specs.Rules.{CacheFormed}
@@ -82,9 +82,9 @@ module _ (c h : List ℕ) (low high : ℕ) (s : Searching c h low high) (l : low
           right = s.right;
         }
 
-    pub search_above : (r ≡ equal → ⊥) → (r ≡ below → ⊥) → Searching c h low mid
-    search_above n q =
-        let b = stands.if_above (omega (arith, stands.small)) in
+    pub search_above : r ≡ above → Searching c h low mid
+    search_above q =
+        let b = stands.if_above q in
         record {
           ordered = omega arith;
           inside = omega (arith, s.inside);

@@ -1,7 +1,7 @@
 -- Numbers that bytes make are ordered as the bytes are, where the first byte is the most significant; and how a comparison of two entries
 -- by such numbers finds their order.
 use Prim.Native.Nat.{ℕ, zero, suc, ◌+◌, ◌*◌, ◌<◌, ◌≤◌}
-use mathlib.Core.Bool.{Bool, true, false}
+use mathlib.Core.Bool.{Bool, true, false, true≢false, false≢true}
 use mathlib.Core.List.{List}
 use mathlib.Core.Path.{◌≡◌, refl, sym, subst, ◌∙◌}
 use native.Mathlib.Nat.{add-zero, add-suc}
@@ -14,7 +14,11 @@ use borrow.Author.Tests.{ltb-true, ltb-false}
 use Rattle.endian.specs.Numbers.{AllBytes, big}
 use Rattle.endian.proofs.Numbers.{big_part}
 use Rattle.layout.specs.TrustCache.{cache_head, entry_size, cdhash_length, hash_at}
-use Rattle.trustcache.specs.Order.{below, above, order, Below}
+use Rattle.std.specs.declared.cmp.Ordering.{Ordering}
+use Rattle.std.specs.declared.cmp.Ordering.TheVariants.{Less, Equal, Greater}
+use Rattle.std.specs.Ordering.{is_ne, nat_cmp}
+use Rattle.std.proofs.lemmas.Cmp.{ranked}
+use Rattle.trustcache.specs.Order.{order_number, below, above, order, Below}
 use Rattle.trustcache.proofs.Order.{SameTo, same_back, same_more, less_at, order_below, order_above}
 
 -- the bytes of a hash are below 256
@@ -74,17 +78,27 @@ module _ (c : List ℕ) (f : AllBytes c) (i j k a b : ℕ) (s : SameTo (4 * k) (
   right : b ≡ big 4 (hash_at c j) (4 * k)
   right = q ∙ hash_number c j 4 (4 * k) (omega arith)
 
-  pub numbers_below : a < b → below ≡ order (hash_at c i) (hash_at c j)
+  numbers_below : a < b → below ≡ order (hash_at c i) (hash_at c j)
   numbers_below h =
       order_below (hash_at c i) (hash_at c j)
       (number_less (hash_at c i) (hash_at c j) (hash_bytes c i f) (hash_bytes c j f) (4 * k) s 4 (omega arith) (omega (arith, left, right)))
 
-  pub numbers_above : b < a → above ≡ order (hash_at c i) (hash_at c j)
+  numbers_above : b < a → above ≡ order (hash_at c i) (hash_at c j)
   numbers_above h =
       order_above (hash_at c i) (hash_at c j)
       (number_less (hash_at c j) (hash_at c i) (hash_bytes c j f) (hash_bytes c i f) (4 * k) (same_back (hash_at c i) (hash_at c j) (4 * k) s) 4 (omega arith) (omega (arith, left, right)))
 
-  pub numbers_more : a ≡ b → SameTo (4 * (k + 1)) (hash_at c i) (hash_at c j)
+  numbers_more : a ≡ b → SameTo (4 * (k + 1)) (hash_at c i) (hash_at c j)
   numbers_more h =
       subst (λ (n : ℕ). SameTo n (hash_at c i) (hash_at c j)) (omega arith)
       (number_same (hash_at c i) (hash_at c j) (hash_bytes c i f) (hash_bytes c j f) (4 * k) s 4 (omega arith) (omega (arith, left, right)))
+
+  pub numbers_stop : (o : Ordering) → o ≡ nat_cmp a b → is_ne o ≡ true → order_number o ≡ order (hash_at c i) (hash_at c j)
+  numbers_stop Less e n = numbers_below (ranked a b Less e)
+  numbers_stop Equal e n = absurd (false≢true n)
+  numbers_stop Greater e n = numbers_above (ranked a b Greater e)
+
+  pub numbers_go : (o : Ordering) → o ≡ nat_cmp a b → is_ne o ≡ false → SameTo (4 * (k + 1)) (hash_at c i) (hash_at c j)
+  numbers_go Less e n = absurd (true≢false n)
+  numbers_go Equal e n = numbers_more (ranked a b Equal e)
+  numbers_go Greater e n = absurd (true≢false n)

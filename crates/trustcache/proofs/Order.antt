@@ -1,6 +1,6 @@
 -- The order of hashes, and how a comparison byte by byte finds it. Two hashes are equal, or one is below the other.
 use Prim.Native.Nat.{ℕ, ◌+◌, ◌-◌, ◌<◌, ◌≤◌}
-use mathlib.Core.Bool.{Bool, true, false}
+use mathlib.Core.Bool.{Bool, true, false, true≢false, false≢true}
 use mathlib.Core.List.{List}
 use mathlib.Core.Logic.{◌⊎◌, inl, inr, ⊎_elim}
 use mathlib.Core.Path.{◌≡◌, refl, sym, ap, subst, ◌∙◌}
@@ -14,7 +14,11 @@ use Rattle.layout.specs.TrustCache.{cdhash_length, hash_at}
 use Rattle.refusals.specs.Refusals.{holds, lowest}
 use Rattle.refusals.proofs.Conditions.{says, said, pick_yes, pick_no}
 use Rattle.refusals.proofs.Positions.{lowest_before, lowest_fails, none_fails, first_fails}
-use Rattle.trustcache.specs.Order.{differs_at, first_differing, below, equal, above, order, FirstLess, Below, OrderPlainly}
+use Rattle.std.specs.declared.cmp.Ordering.{Ordering}
+use Rattle.std.specs.declared.cmp.Ordering.TheVariants.{Less, Equal, Greater}
+use Rattle.std.specs.Ordering.{is_le, is_ne, nat_cmp}
+use Rattle.std.proofs.lemmas.Cmp.{ranked}
+use Rattle.trustcache.specs.Order.{order_number, differs_at, first_differing, below, equal, above, order, FirstLess, Below, OrderPlainly}
 use Rattle.trustcache.specs.Rows.{not_above}
 
 -- the first n bytes are the same
@@ -167,14 +171,25 @@ module _ (x y : List ℕ) (i a b : ℕ) (s : SameTo i x y) (p : a ≡ get_or x (
   right : b ≡ get_or y i 0
   right = q ∙ ap (λ (k : ℕ). get_or y k 0) (zero-add i)
 
-  pub compare_below : i < cdhash_length → a < b → below ≡ order x y
+  compare_below : i < cdhash_length → a < b → below ≡ order x y
   compare_below l h = order_below x y (less_at x y i s l (omega (arith, left, right)))
 
-  pub compare_above : i < cdhash_length → b < a → above ≡ order x y
+  compare_above : i < cdhash_length → b < a → above ≡ order x y
   compare_above l h = order_above x y (less_at y x i (same_back x y i s) l (omega (arith, left, right)))
 
-  pub compare_more : a ≡ b → SameTo (i + 1) x y
+  compare_more : a ≡ b → SameTo (i + 1) x y
   compare_more h = same_more x y i s (sym left ∙ h ∙ right)
+
+  -- .. by one comparison of the two
+  pub compare_stops : i < cdhash_length → (o : Ordering) → o ≡ nat_cmp a b → is_ne o ≡ true → order_number o ≡ order x y
+  compare_stops l Less e n = compare_below l (ranked a b Less e)
+  compare_stops l Equal e n = absurd (false≢true n)
+  compare_stops l Greater e n = compare_above l (ranked a b Greater e)
+
+  pub compare_goes : (o : Ordering) → o ≡ nat_cmp a b → is_ne o ≡ false → SameTo (i + 1) x y
+  compare_goes Less e n = absurd (true≢false n)
+  compare_goes Equal e n = compare_more (ranked a b Equal e)
+  compare_goes Greater e n = absurd (true≢false n)
 
 pub compare_equal : (x y : List ℕ) (i : ℕ) → i ≡ cdhash_length → SameTo i x y → equal ≡ order x y
 compare_equal x y i n s = order_same x y (subst (λ (k : ℕ). SameTo k x y) n s)
@@ -189,11 +204,8 @@ first_is_above c i e = says false (not_above c i) (λ z. absurd (omega arith))
 pub compared : (c x y : List ℕ) (i j r : ℕ) → x ≡ hash_at c i → y ≡ hash_at c j → r ≡ order x y → r ≡ order (hash_at c i) (hash_at c j)
 compared c x y i j r e f o = o ∙ ap (λ (l : List ℕ). order l y) e ∙ ap (order (hash_at c i)) f
 
-module _ (c : List ℕ) (i r : ℕ) (o : r ≡ order (hash_at c i) (hash_at c (i - 1))) where
-  pub is_above : r ≡ above → false ≡ holds (not_above c i)
-  unfolding not_above
-  is_above q = says false (not_above c i) (λ z. sym o ∙ q)
-
-  pub is_not_above : (i ≡ 0 → ⊥) → (r ≡ above → ⊥) → true ≡ holds (not_above c i)
-  unfolding not_above
-  is_not_above n q = says true (not_above c i) (omega arith, λ z. q (o ∙ z))
+pub not_above_is : (c : List ℕ) (i : ℕ) (o : Ordering) → order_number o ≡ order (hash_at c i) (hash_at c (i - 1)) → (i ≡ 0 → ⊥) → is_le o ≡ holds (not_above c i)
+unfolding not_above
+not_above_is c i Less e n = says true (not_above c i) (omega arith, λ z. omega (arith, e, z))
+not_above_is c i Equal e n = says true (not_above c i) (omega arith, λ z. omega (arith, e, z))
+not_above_is c i Greater e n = says false (not_above c i) (λ z. sym e)

@@ -1,5 +1,7 @@
 -- The order of hashes by their 20 bytes, the first byte first. A byte past a list's end counts as 0.
 use Rattle.std.specs.Prelude.{ℕ, ◌<◌, List, ◌↔◌, ◌≡◌, length, get_or}
+use Rattle.std.specs.declared.cmp.Ordering.{Ordering}
+use Rattle.std.specs.declared.cmp.Ordering.TheVariants.{Less, Equal, Greater}
 use Rattle.layout.specs.TrustCache.{cdhash_length}
 use Rattle.refusals.specs.Refusals.{Cond, ◌<?◌, ◌≡?◌, ◌≢?◌, pick, lowest}
 
@@ -20,6 +22,12 @@ equal = 1
 
 abbrev pub above : ℕ
 above = 2
+
+-- .. as the code says it
+abbrev pub order_number : Ordering → ℕ
+order_number Less = below
+order_number Equal = equal
+order_number Greater = above
 
 -- the first byte that differs decides
 unfoldable pub order : List ℕ → List ℕ → ℕ

@@ -1,9 +1,10 @@
 // Launch constraints, tests 29 and 30.
-ghost use Rattle.std.specs.Prelude.{◌≡◌, ◌≤◌};
+ghost use Rattle.std.specs.Prelude.{◌≡◌};
 ghost use Rattle.refusals.specs.Refusals.{first, accepted};
-ghost use Rattle.trustcache.specs.Launch.{flag, launch_rows};
+ghost use Rattle.refusals.specs.Named.{test_answer};
+ghost use Rattle.trustcache.specs.Launch.{launch_rows};
 
-use refusals::Answer;
+use refusals::Refusal;
 
 // The category whose constraints are tested.
 const CONSTRAINED: usize = 1;
@@ -24,50 +25,21 @@ pub struct Launch {
     pub parent_is_init: bool,
 }
 
-fn flag(b: bool) -> usize
-    ensures { (result ≡ flag b) × (result ≤ 1) }
-{
-    if b { 1 } else { 0 }
-}
-
 // Tests 29 and 30, of a launch under a category.
-pub fn launch_tested(category: usize, facts: Launch) -> Answer
-    ensures { result ≡ first (launch_rows category facts) accepted }
+pub fn launch_tested(category: usize, facts: Launch) -> Result<(), Refusal>
+    ensures { test_answer result ≡ first (launch_rows category facts) accepted }
 {
     if category != CONSTRAINED {
-        return Answer {
-            number: 0,
-            place: 0,
-        };
+        return Ok(());
     }
-    let authorized = flag(facts.on_authorized_volume);
-    let system = flag(facts.on_system_volume);
-    if authorized + system == 0 {
-        return Answer {
-            number: 29,
-            place: 0,
-        };
+    if !facts.on_authorized_volume && !facts.on_system_volume {
+        return Err(Refusal::SelfConstraint);
     }
-    if facts.launch_type != LAUNCH_TYPE {
-        return Answer {
-            number: 29,
-            place: 0,
-        };
+    if facts.launch_type != LAUNCH_TYPE || facts.validation_category != VALIDATION_CATEGORY {
+        return Err(Refusal::SelfConstraint);
     }
-    if facts.validation_category != VALIDATION_CATEGORY {
-        return Answer {
-            number: 29,
-            place: 0,
-        };
+    if !facts.parent_is_init {
+        return Err(Refusal::ParentConstraint);
     }
-    if flag(facts.parent_is_init) == 0 {
-        return Answer {
-            number: 30,
-            place: 0,
-        };
-    }
-    Answer {
-        number: 0,
-        place: 0,
-    }
+    Ok(())
 }

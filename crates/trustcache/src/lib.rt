@@ -10,31 +10,22 @@ mod launch;
 mod search;
 
 ghost use Rattle.std.specs.Prelude.{◌≡◌};
+ghost use Rattle.refusals.specs.Named.{place_answer};
 ghost use Rattle.trustcache.specs.Table.{cache_answer};
 
 use entries::form_tested;
 pub use launch::Launch;
 use launch::launch_tested;
 use layout::cache::CacheEntry;
-use refusals::Answer;
+use refusals::Refusal;
 use search::lookup_tested;
 
-// Tests 24 to 30, of the directory whose hash, by its kind, begins with these 20 bytes. The place of a 0 is the directory's entry.
-pub fn tested(c: &[u8], kind: usize, hash: [u8; 20], facts: Launch) -> Answer
-    ensures { result ≡ cache_answer c.now kind hash facts }
+// Tests 24 to 30, of the directory whose hash, by its kind, begins with these 20 bytes, and its entry.
+pub fn tested(c: &[u8], kind: usize, hash: [u8; 20], facts: Launch) -> Result<usize, Refusal>
+    ensures { place_answer result ≡ cache_answer c.now kind hash facts }
 {
-    let form = form_tested(c);
-    if form.number != 0 {
-        return form;
-    }
-    let found = lookup_tested(c, kind, hash);
-    if found.number != 0 {
-        return found;
-    }
-    let entry = CacheEntry::read(c, found.place);
-    let launch = launch_tested(entry.category, facts);
-    if launch.number != 0 {
-        return launch;
-    }
-    found
+    form_tested(c)?;
+    let found = lookup_tested(c, kind, hash)?;
+    launch_tested(CacheEntry::read(c, found).category, facts)?;
+    Ok(found)
 }

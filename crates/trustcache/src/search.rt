@@ -1,62 +1,50 @@
 // The entry of a directory, tests 26 to 28.
+ghost use Rattle.std.specs.Prelude.{◌<◌, IfSome};
+ghost use Rattle.std.specs.Option.{unwrap_or};
+ghost use Rattle.layout.specs.TrustCache.{entry_count};
+ghost use Rattle.refusals.specs.Named.{place_answer};
 ghost use Rattle.trustcache.specs.Lookup.{EntryFound, LookupAnswer};
 
-use super::entries::{BELOW, EQUAL, compare};
+use super::entries::compare;
 use layout::cache::{CacheEntry, CacheHead, hash_of};
-use refusals::Answer;
+use refusals::Refusal;
+use std::cmp::Ordering;
 
 // The highest constraint category.
 const HIGHEST_CATEGORY: usize = 1;
 
-// The entry that has the hash, or the number of entries where none has, by halving what is left of the entries.
-fn find_entry(c: &[u8], hash: [u8; 20]) -> usize
-    ensures { EntryFound c.now hash result }
+// The entry that has the hash, if one has it, by halving what is left of the entries. The entries are bytes of the cache and no slice of
+// hashes, which std's `binary_search` asks for.
+fn find_entry(c: &[u8], hash: [u8; 20]) -> Option<usize>
+    ensures found { EntryFound c.now hash (unwrap_or result (entry_count c.now)) }
+    ensures within { IfSome result (λ entry. entry < entry_count c.now) }
 {
-    let entries = CacheHead::read(c).entries;
     let mut low = 0;
-    let mut high = entries;
+    let mut high = CacheHead::read(c).entries;
     while low < high {
         let middle = low + (high - low) / 2;
-        let order = compare(hash_of(c, middle), &hash);
-        if order == EQUAL {
-            return middle;
-        }
-        if order == BELOW {
-            low = middle + 1;
-        } else {
-            high = middle;
+        match compare(hash_of(c, middle), &hash) {
+            Ordering::Less => low = middle + 1,
+            Ordering::Equal => return Some(middle),
+            Ordering::Greater => high = middle,
         }
     }
-    entries
+    None
 }
 
-// Tests 26 to 28, of a directory of this hash kind. The place of a 0 is the entry. In a cache that 24 or 25 refuses, which entry is found is left open.
-pub fn lookup_tested(c: &[u8], kind: usize, hash: [u8; 20]) -> Answer
-    ensures { LookupAnswer c.now kind hash result }
+// Tests 26 to 28, of a directory of this hash kind, and its entry. In a cache that 24 or 25 refuses, which entry is found is left open.
+pub fn lookup_tested(c: &[u8], kind: usize, hash: [u8; 20]) -> Result<usize, Refusal>
+    ensures { LookupAnswer c.now kind hash (place_answer result) }
 {
-    let head = CacheHead::read(c);
-    let found = find_entry(c, hash);
-    if found == head.entries {
-        return Answer {
-            number: 26,
-            place: 0,
-        };
-    }
+    let Some(found) = find_entry(c, hash) else {
+        return Err(Refusal::NotListed);
+    };
     let entry = CacheEntry::read(c, found);
     if entry.hash_type != kind {
-        return Answer {
-            number: 27,
-            place: found,
-        };
+        return Err(Refusal::OtherKind(found));
     }
     if HIGHEST_CATEGORY < entry.category {
-        return Answer {
-            number: 28,
-            place: entry.category,
-        };
+        return Err(Refusal::UnknownCategory(entry.category));
     }
-    Answer {
-        number: 0,
-        place: found,
-    }
+    Ok(found)
 }

@@ -11,6 +11,8 @@ use Rattle.trustcache.specs.Rows.{form_rows, entry_of, lookup_rows}
 use Rattle.trustcache.specs.Launch.{launch_rows}
 use Rattle.trustcache.specs.Table.{cache_rows, cache_answer}
 use Rattle.refusals.proofs.Joined.{stops_at, stops_alone, passed_at, goes_on}
+use Rattle.std.proofs.lemmas.Result.{err_from_is_err_and}
+use Rattle.refusals.proofs.Results.{refused}
 use Rattle.trustcache.proofs.tested.Goals as goal
 
 -- no row gives 0
@@ -66,14 +68,20 @@ module _ (c : List ℕ) (kind : ℕ) (h : List ℕ) (facts : Launch) (form found
           (found-is ∙ passes (launch_rows (category_at c (entry_of c h)) facts) (refuse 0 (entry_of c h))
           (passed_at (launch_rows (category_at c (entry_of c h)) facts) accepted launch (launch_unused _ facts) launch-is x))
 
-pub returns-then-form-ne0 : goal.returns-then-form-ne0
-returns-then-form-ne0 c = form-stops _ _ _ _ _ c.form_tested-form.ensures c.if-form-ne0.true
+pub returns-in_err-form_tested : goal.returns-in_err-form_tested
+returns-in_err-form_tested c =
+    let p = err_from_is_err_and c.from_residual.result c.from_residual.ensures.1 in
+    rw (p.1, p.2) (form-stops _ _ _ _ _ c.in_err-form_tested.ensures (refused _))
 
-pub returns-then-found-ne0 : goal.returns-then-found-ne0
-returns-then-found-ne0 c = found-stops _ _ _ _ _ _ c.form_tested-form.ensures c.if-form-ne0.false c.lookup_tested-found.ensures.answer_is c.if-found-ne0.true
+pub returns-in_err-found : goal.returns-in_err-found
+returns-in_err-found c =
+    let p = err_from_is_err_and c.from_residual-in_err-found.result c.from_residual-in_err-found.ensures.1 in
+    rw (p.1, p.2) (found-stops _ _ _ _ accepted _ c.in_ok-form_tested.ensures refl c.in_err-found.ensures.answer_is (refused _))
 
-pub returns-then-launch-ne0 : goal.returns-then-launch-ne0
-returns-then-launch-ne0 c = launch-stops _ _ _ _ _ _ c.form_tested-form.ensures c.if-form-ne0.false c.lookup_tested-found.ensures.answer_is c.if-found-ne0.false _ _ c.read-entry.ensures.category_is c.launch_tested-launch.ensures c.if-launch-ne0.true
+pub returns-in_err-launch_tested : goal.returns-in_err-launch_tested
+returns-in_err-launch_tested c =
+    let p = err_from_is_err_and c.from_residual-in_err-launch_tested.result c.from_residual-in_err-launch_tested.ensures.1 in
+    rw (p.1, p.2) (launch-stops _ _ _ _ accepted _ c.in_ok-form_tested.ensures refl c.in_ok-found.ensures.answer_is refl _ _ c.read.ensures.category_is c.in_err-launch_tested.ensures (refused _))
 
 pub returns : goal.returns
-returns c = launch-passes _ _ _ _ _ _ c.form_tested-form.ensures c.if-form-ne0.false c.lookup_tested-found.ensures.answer_is c.if-found-ne0.false _ _ c.read-entry.ensures.category_is c.launch_tested-launch.ensures c.if-launch-ne0.false
+returns c = launch-passes _ _ _ _ accepted _ c.in_ok-form_tested.ensures refl c.in_ok-found.ensures.answer_is refl _ _ c.read.ensures.category_is c.in_ok-launch_tested.ensures refl

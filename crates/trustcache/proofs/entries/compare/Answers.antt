@@ -1,24 +1,16 @@
+use mathlib.Core.Path.{sym, ◌∙◌}
 use native.Mathlib.Omega.{arith}
-use Rattle.trustcache.proofs.Order.{compare_below, compare_above, compare_none, compare_more, compare_equal}
+use Rattle.trustcache.proofs.Order.{compare_none, compare_stops, compare_goes, compare_equal}
 use Rattle.trustcache.proofs.entries.compare.Goals as goal
 
 pub loop-i-init : goal.loop-i-init
-loop-i-init c = (omega arith, compare_none _ _)
+loop-i-init c = compare_none _ _
 
-pub returns-then-a-b : goal.returns-then-a-b
-returns-then-a-b c = compare_below _ _ _ _ _ c.loop-i.invariant.1 c.byte-a.ensures.0 c.byte-b.ensures.0 (omega arith) c.if-a-b.true
-
-pub returns-then-b-a : goal.returns-then-b-a
-returns-then-b-a c = compare_above _ _ _ _ _ c.loop-i.invariant.1 c.byte-a.ensures.0 c.byte-b.ensures.0 (omega arith) c.if-b-a.true
-
-pub overflow_add-i : goal.overflow_add-i
-overflow_add-i c = omega arith
-
-pub loop-i-smaller : goal.loop-i-smaller
-loop-i-smaller c = omega arith
+pub returns-then-is_ne : goal.returns-then-is_ne
+returns-then-is_ne c = compare_stops _ _ _ _ _ c.loop-i.invariant c.byte.ensures.0 c.byte-in-loop-i.ensures.0 (omega arith) _ c.cmp-order.ensures (sym c.is_ne.ensures ∙ c.if-is_ne.true)
 
 pub loop-i-preserved : goal.loop-i-preserved
-loop-i-preserved c = (omega arith, compare_more _ _ _ _ _ c.loop-i.invariant.1 c.byte-a.ensures.0 c.byte-b.ensures.0 (omega arith))
+loop-i-preserved c = compare_goes _ _ _ _ _ c.loop-i.invariant c.byte.ensures.0 c.byte-in-loop-i.ensures.0 _ c.cmp-order.ensures (sym c.is_ne.ensures ∙ c.if-is_ne.false)
 
 pub returns : goal.returns
-returns c = compare_equal _ _ _ (omega arith) c.loop-i.invariant.1
+returns c = compare_equal _ _ _ (omega arith) c.loop-i.invariant

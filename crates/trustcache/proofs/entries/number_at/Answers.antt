@@ -1,8 +1,9 @@
--- The sum of the four bytes is the number that they make. Assumes nothing.
+-- The four bytes make the same number.
+use native.Mathlib.Nat.{add-zero}
 use native.Mathlib.Omega.{arith}
 use Rattle.endian.specs.Numbers.{big}
 use Rattle.trustcache.proofs.entries.number_at.Goals as goal
 
 pub returns : goal.returns
 unfolding big
-returns c = omega arith
+returns c = rw add-zero (omega (arith, c.from_be_bytes.ensures))

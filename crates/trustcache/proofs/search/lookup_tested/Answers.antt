@@ -8,45 +8,45 @@ use Rattle.refusals.proofs.Exact.{decides, passes}
 use Rattle.trustcache.specs.Rows.{entry_of, lookup_rows}
 use Rattle.trustcache.proofs.search.lookup_tested.Goals as goal
 
-pub returns-then-found-head : goal.returns-then-found-head
+pub returns-in_default : goal.returns-in_default
 unfolding lookup_rows
-returns-then-found-head c = let looked = c.find_entry-found.ensures in
-    record { answer_is = λ p. let at = looked.found p in decides _ (refuse 0 (entry_of _ _)) _ _ (omega arith); number_known = inr (inl refl) }
+returns-in_default c =
+    record { answer_is = λ p. let at = c.in_default.ensures.found.found p in decides _ (refuse 0 (entry_of _ _)) _ _ (omega arith); number_known = inr (inl refl) }
 
 pub returns-then-entry-kind : goal.returns-then-entry-kind
 unfolding lookup_rows
-returns-then-entry-kind c = let looked = c.find_entry-found.ensures in
+returns-then-entry-kind c =
     record {
       answer_is =
           λ p.
-          let at = looked.found p in
+          let at = c.in-Some.ensures.found.found p in
           let type = c.read-entry.ensures.hash_type_is ∙ ap (hash_type_at _) at in
-          decides _ (refuse 0 (entry_of _ _)) _ _ (omega arith);
+          decides _ (refuse 0 (entry_of _ _)) _ _ (omega (arith, c.in-Some.ensures.within));
       number_known = inr (inr (inl refl));
     }
 
 pub returns-then-entry-gt-HIGHEST_CATEGORY : goal.returns-then-entry-gt-HIGHEST_CATEGORY
 unfolding lookup_rows
-returns-then-entry-gt-HIGHEST_CATEGORY c = let looked = c.find_entry-found.ensures in
+returns-then-entry-gt-HIGHEST_CATEGORY c =
     record {
       answer_is =
           λ p.
-          let at = looked.found p in
+          let at = c.in-Some.ensures.found.found p in
           let type = c.read-entry.ensures.hash_type_is ∙ ap (hash_type_at _) at in
           let category = c.read-entry.ensures.category_is ∙ ap (category_at _) at in
-          decides _ (refuse 0 (entry_of _ _)) _ _ (omega arith);
+          decides _ (refuse 0 (entry_of _ _)) _ _ (omega (arith, c.in-Some.ensures.within));
       number_known = inr (inr (inr refl));
     }
 
 pub returns : goal.returns
 unfolding lookup_rows
-returns c = let looked = c.find_entry-found.ensures in
+returns c =
     record {
       answer_is =
           λ p.
-          let at = looked.found p in
+          let at = c.in-Some.ensures.found.found p in
           let type = c.read-entry.ensures.hash_type_is ∙ ap (hash_type_at _) at in
           let category = c.read-entry.ensures.category_is ∙ ap (category_at _) at in
-          ap (refuse 0) at ∙ passes _ (refuse 0 (entry_of _ _)) (omega arith);
+          ap (refuse 0) at ∙ passes _ (refuse 0 (entry_of _ _)) (omega (arith, c.in-Some.ensures.within));
       number_known = inl refl;
     }
