@@ -22,16 +22,16 @@ use Rattle.refusals.proofs.Conditions.{says, said}
 use Rattle.refusals.proofs.Positions.{none_fails, some_fails, lowest_stop}
 
 -- what such a search found, of a test that answers as f holds
-abbrev pub Found : (ℕ → Cond) → ℕ → Option ℕ → Type 0
+abbrev Found : (ℕ → Cond) → ℕ → Option ℕ → Type 0
 Found f n r = MatchOption r ((k : ℕ) → 0 ≤ k → k < n → false ≡ holds (f k)) (λ i. (0 ≤ i) × (i < n) × (true ≡ holds (f i)) × ((k : ℕ) → 0 ≤ k → k < i → false ≡ holds (f k)))
 
-pub found_lowest : (f : ℕ → Cond) (n : ℕ) (r : Option ℕ) → Found f n r → unwrap_or r n ≡ lowest f n
+found_lowest : (f : ℕ → Cond) (n : ℕ) (r : Option ℕ) → Found f n r → unwrap_or r n ≡ lowest f n
 found_lowest f n None h = sym (none_fails f n (λ k l. said false (f k) (h k (omega arith) l)))
 found_lowest f n (Some i) h =
     lowest_stop f n i h.1 (none_fails f i (λ k l. said false (f k) (h.3 k (omega arith) l))) h.2
 
 -- the same of a call of `find`, by what it says of its run, where each call of the closure leaves it as it was and answers as f holds
-pub searched : {F : Type 0} {g : Mut F (Bor ℕ × Unit {0}) Bool} (f : ℕ → Cond) (s u : Range ℕ) (p : F) (r : Option ℕ)
+searched : {F : Type 0} {g : Mut F (Bor ℕ × Unit {0}) Bool} (f : ℕ → Cond) (s u : Range ℕ) (p : F) (r : Option ℕ)
     → (xs : List ℕ) × (j : F) × YieldsThen nat_range_steps s xs r u × FoldsTo (λ p x q. CalledAt g p x false q) p xs j × MatchOption r ⊤ (λ x. (h : F) × CalledAt g j x true h)
     → ((x : ℕ) (q : F) → CalledAt g p x true q → true ≡ holds (f x))
     → ((x : ℕ) (q : F) → CalledAt g p x false q → (q ≡ p) × (false ≡ holds (f x)))
@@ -47,6 +47,11 @@ Lowest f n r = MatchOption r (lowest f n ≡ n) (λ i. (i < n) × (i ≡ lowest 
 search_lowest : (f : ℕ → Cond) (n : ℕ) (r : Option ℕ) → Found f n r → Lowest f n r
 search_lowest f n None h = sym (found_lowest f n None h)
 search_lowest f n (Some i) h = (h.1, found_lowest f n (Some i) h)
+
+-- .. or the number of positions where there is none
+pub lowest_or : (f : ℕ → Cond) (n : ℕ) (r : Option ℕ) → Lowest f n r → unwrap_or r n ≡ lowest f n
+lowest_or f n None h = sym h
+lowest_or f n (Some i) h = h.1
 
 -- what a call of `find` over a range says of the lowest position
 pub finds : {F : Type 0} {g : Mut F (Bor ℕ × Unit {0}) Bool} (f : ℕ → Cond) (n : ℕ) (s u : Range ℕ) (p : F) (r : Option ℕ)
@@ -96,8 +101,3 @@ pub positioned : {S A F : Type 0} {steps : S → Option A → S → Type 0} {v :
     → Lowest (λ k. t (get_or all k 0)) (length all) r
 positioned {all = all} t u p r ran yields held failed =
     stopped t all r (IsFirst-from_position u p r (λ x. true ≡ holds (t x)) (λ x. false ≡ holds (t x)) ran yields held failed)
-
--- a search through a range stops where one through elements does
-pub found_stops : (f : ℕ → Cond) (n : ℕ) (r : Option ℕ) → Found f n r → Stopped f n r
-found_stops f n None h = none_fails f n (λ k l. said false (f k) (h k (omega arith) l))
-found_stops f n (Some i) h = (h.1, sym (found_lowest f n (Some i) h))

@@ -5,14 +5,14 @@ use borrow.Author.Tests.{tests}
 use borrow.Author.Rules.{rules}
 use Rattle.refusals.specs.Refusals.{accepted}
 use Rattle.refusals.proofs.Exact.{decides, passes}
-use Rattle.refusals.proofs.Searches.{Stopped, searched, found_stops}
+use Rattle.refusals.proofs.Searches.{Lowest, finds}
 use Rattle.trustcache.specs.Rows.{not_above, form_rows}
 use Rattle.layout.specs.TrustCache.{entry_count}
 use Rattle.trustcache.proofs.entries.form_tested.Goals as goal
 use Rattle.trustcache.proofs.entries.form_tested.Goals.{After-find, then-c-lt-HEAD-via-then-c-lt-HEAD, then-c-lt-HEAD-via-else-c-lt-HEAD+then-head-ne-VERSION, then-c-lt-HEAD-via-else-c-lt-HEAD+else-head-ne-VERSION+then-head-gt-MOST_ENTRIES, then-c-lt-HEAD-via-else-c-lt-HEAD+else-head-ne-VERSION+else-head-gt-MOST_ENTRIES+then-c-head}
 
-stopped : (c : After-find) → Stopped (not_above c.args.c.now) (entry_count c.args.c.now) c.find.result
-stopped c = rw (← c.read-head.ensures.entries_is) (found_stops _ _ _ (searched (not_above c.args.c.now) _ _ _ c.find.result c.find.ensures.ran (λ x q k. search (rules, tests)) (λ x q k. search (rules, tests)) refl))
+stopped : (c : After-find) → Lowest (not_above c.args.c.now) (entry_count c.args.c.now) c.find.result
+stopped c = finds (not_above c.args.c.now) _ _ _ _ c.find.result c.find.ensures.ran (λ x b q k. search (rules, tests)) refl c.read-head.ensures.entries_is
 
 pub returns-then-c-lt-HEAD : goal.returns-then-c-lt-HEAD
 unfolding form_rows
