@@ -3,6 +3,7 @@
 #![tactic(auto)]
 
 ghost use Rattle.std.specs.Prelude.{◌≡◌};
+ghost use Rattle.refusals.specs.Refusals.{accepted};
 ghost use Rattle.layout.specs.CodeDirectory.{directory_type};
 ghost use Rattle.superblob.specs.Rows.{start_of};
 ghost use Rattle.directory.specs.Rows.{directory};
@@ -12,9 +13,10 @@ ghost use Rattle.admission.specs.File.{lent_file, FileChecked};
 ghost use Rattle.admission.specs.Recheck.{recheck_of, Rechecked};
 ghost use Rattle.trewizlow.specs.Interface.{file_signature, blob_part, fields_of, no_fields, directory_fields, directory_hash};
 
-use admission::Verdict;
+use admission::{Beside, Verdict};
 use layout::directory::CodeDirectory;
 use refusals::Answer;
+use slots::SideFiles;
 use trustcache::Launch;
 
 // The whole check.
@@ -31,17 +33,13 @@ pub fn trewizlow_check(
 ) -> Verdict
     ensures { Checked (lent signature.now image.now cache.now info_there info.now resources_there resources.now launch) marks.old result marks.new }
 {
-    admission::check(
+    let lent = Beside {
         signature,
-        image,
-        marks,
         cache,
-        info_there,
-        info,
-        resources_there,
-        resources,
+        sides: SideFiles::lent(info_there, info, resources_there, resources),
         launch,
-    )
+    };
+    admission::check(image, marks, lent)
 }
 
 // Where the signature lies in a Mach-O file: the answer of tests 36 to 40, and its part of the file, 0 and 0 where one of them refuses.
@@ -89,16 +87,8 @@ pub fn trewizlow_file_check(
 ) -> Verdict
     ensures { FileChecked (lent_file file.now cache.now info_there info.now resources_there resources.now launch) marks.old result marks.new }
 {
-    admission::check_file(
-        file,
-        marks,
-        cache,
-        info_there,
-        info,
-        resources_there,
-        resources,
-        launch,
-    )
+    let sides = SideFiles::lent(info_there, info, resources_there, resources);
+    admission::check_file(file, marks, cache, sides, launch)
 }
 
 // The recheck of a range, lent the contents of the pages that it meets.
@@ -163,11 +153,10 @@ pub struct DirectoryFields {
 pub fn trewizlow_read(signature: &[u8]) -> DirectoryFields
     ensures { result ≡ directory_fields signature.now }
 {
-    let answer = directory::tested(signature, 0);
-    if answer.number != 0 {
-        return no_fields(answer);
+    match directory::tested(signature, 0) {
+        Ok(()) => fields(signature),
+        Err(refusal) => no_fields(Answer::from(refusal)),
     }
-    fields(answer, signature)
 }
 
 // A refusal: every field is 0.
@@ -195,9 +184,9 @@ fn no_fields(answer: Answer) -> DirectoryFields
     }
 }
 
-// The fields of a signature's directory, with the answer.
-fn fields(answer: Answer, signature: &[u8]) -> DirectoryFields
-    ensures { result ≡ fields_of answer (start_of signature.now directory_type) (directory signature.now) }
+// The fields of a signature's directory, with the answer that nothing is refused.
+fn fields(signature: &[u8]) -> DirectoryFields
+    ensures { result ≡ fields_of accepted (start_of signature.now directory_type) (directory signature.now) }
 {
     let start = superblob::start_of(signature, CodeDirectory::TYPE);
     let d = superblob::blob_of(signature, CodeDirectory::TYPE);
@@ -216,8 +205,8 @@ fn fields(answer: Answer, signature: &[u8]) -> DirectoryFields
     let platform = head.platform as u8;
     let page_shift = head.page_shift as u8;
     DirectoryFields {
-        number: answer.number,
-        place: answer.place,
+        number: 0,
+        place: 0,
         start,
         length: d.len(),
         version,
@@ -248,18 +237,19 @@ pub struct DirectoryHash {
 pub fn trewizlow_cdhash(signature: &[u8]) -> DirectoryHash
     ensures { result ≡ directory_hash signature.now }
 {
-    let answer = directory::tested(signature, 0);
-    if answer.number != 0 {
-        return DirectoryHash {
-            number: answer.number,
-            place: answer.place,
-            hash: [0; 20],
-        };
-    }
-    let hash = cdhash::cdhash(superblob::blob_of(signature, CodeDirectory::TYPE));
-    DirectoryHash {
-        number: answer.number,
-        place: answer.place,
-        hash,
+    match directory::tested(signature, 0) {
+        Ok(()) => DirectoryHash {
+            number: 0,
+            place: 0,
+            hash: cdhash::cdhash(superblob::blob_of(signature, CodeDirectory::TYPE)),
+        },
+        Err(refusal) => {
+            let answer = Answer::from(refusal);
+            DirectoryHash {
+                number: answer.number,
+                place: answer.place,
+                hash: [0; 20],
+            }
+        }
     }
 }
