@@ -4,14 +4,13 @@
 // 4 * i + j, so that each operation meets four words in a row, which the compiler puts into one vector register. Sixteen words of each
 // message's schedule are kept, as in `sha32`; but in memory, since their places go by the round.
 ghost use Rattle.std.specs.Prelude.{◌≡◌, ◌+◌, ◌*◌, ◌%◌, ◌<◌, ◌≤◌, length, get_or};
-ghost use Rattle.sha.specs.Words.{sums};
 ghost use Rattle.sha.specs.Message.{words};
 ghost use Rattle.sha.specs.Sha2.{round, rounds, mix, mixed, schedule, compress, core256};
 ghost use Rattle.sha.specs.Window.{Last};
 ghost use Rattle.sha256x4.specs.Lanes.{lane, Four};
 
 use super::word::Shifts;
-use sha32::{K256, add, next_word, temp1, temp2, word_at};
+use sha32::{K256, add, add_words, next_word, temp1, temp2, word_at};
 
 // Word t + 16 of message j's schedule, of which w holds the sixteen words from word t on, each at its place modulo 16.
 fn new_word(w: &[u32; 64], t: usize, j: usize) -> u32
@@ -128,17 +127,6 @@ fn run_rounds(h: [u32; 32], m: [u32; 64]) -> [u32; 32]
     s
 }
 
-// The closing sums.
-fn add_words(h: [u32; 32], s: [u32; 32]) -> [u32; 32]
-    ensures { result ≡ sums 32 32 h s }
-{
-    let mut r = [0u32; 32];
-    for i in 0..32 {
-        r[i] = add(h[i], s[i]);
-    }
-    r
-}
-
 // The words of four blocks, at byte `at` of each message.
 fn load_blocks(a: &[u8], b: &[u8], c: &[u8], d: &[u8], at: usize) -> [u32; 64]
     requires { (at + 64 ≤ length a.now) × (at + 64 ≤ length b.now) × (at + 64 ≤ length c.now) × (at + 64 ≤ length d.now) }
@@ -164,5 +152,5 @@ pub fn compress_blocks(h: [u32; 32], a: &[u8], b: &[u8], c: &[u8], d: &[u8], at:
     requires { (at + 64 ≤ length a.now) × (at + 64 ≤ length b.now) × (at + 64 ≤ length c.now) × (at + 64 ≤ length d.now) }
     ensures { (lane 8 0 result ≡ compress core256 (lane 8 0 h) (words 4 16 a.now at)) × (lane 8 1 result ≡ compress core256 (lane 8 1 h) (words 4 16 b.now at)) × (lane 8 2 result ≡ compress core256 (lane 8 2 h) (words 4 16 c.now at)) × (lane 8 3 result ≡ compress core256 (lane 8 3 h) (words 4 16 d.now at)) }
 {
-    add_words(h, run_rounds(h, load_blocks(a, b, c, d, at)))
+    add_words(&h, &run_rounds(h, load_blocks(a, b, c, d, at)))
 }

@@ -4,13 +4,12 @@
 // each new one stands in the place of the one sixteen before it, behind the round that uses that one. Every call gives
 // its place as a literal.
 ghost use Rattle.std.specs.Prelude.{◌≡◌, ◌+◌, ◌<◌, ◌≤◌, length, slice_index};
-ghost use Rattle.sha.specs.Words.{sums};
 ghost use Rattle.sha.specs.Sha1.{f1, k1, mix1, mixed1, temp, round1, rounds1, schedule1, sha1};
 ghost use Rattle.sha.proofs.Sizes.{sizes32};
 ghost use Rattle.sha.specs.Window.{renewed, rolled, ran};
 
 use super::load::load_block;
-use super::word::{add, choose, majority, parity, rotate_left, wide};
+use super::word::{add, add_words, choose, majority, parity, rotate_left, wide};
 use sha::HashFunction;
 
 // The initial hash value, section 5.3.1.
@@ -100,7 +99,8 @@ fn step(x: State, t: usize, i: usize) -> State
     }
 }
 
-// Eight rounds of a turn of sixteen from t on, from place FROM on, with their new words.
+// Eight rounds of a turn of sixteen from t on, from place FROM on, with their new words. The places are written out, here and in
+// `last_rounds`: a loop over them keeps the words in memory, and takes more than twice the time.
 fn steps<const FROM: usize>(x: State, t: usize) -> State
     requires { (t ≤ 64) × (FROM + 8 ≤ 16) }
     ensures { (result.s ≡ ran round1 t FROM 8 x.s x.w) × (result.w ≡ rolled mixed1 FROM 8 x.w) }
@@ -149,19 +149,6 @@ fn run_rounds(h: [u32; 5], m: [u32; 16]) -> [u32; 5]
     last_rounds(x.s, x.w)
 }
 
-// The closing sum.
-fn add_words(h: [u32; 5], s: [u32; 5]) -> [u32; 5]
-    ensures { result ≡ sums 32 5 h s }
-{
-    [
-        add(h[0], s[0]),
-        add(h[1], s[1]),
-        add(h[2], s[2]),
-        add(h[3], s[3]),
-        add(h[4], s[4]),
-    ]
-}
-
 // SHA-1, section 6.1.
 pub struct Sha1;
 
@@ -189,7 +176,7 @@ impl HashFunction for Sha1 {
     }
 
     fn compress(h: [u32; 5], b: &[u8], at: usize) -> [u32; 5] {
-        add_words(h, run_rounds(h, load_block(b, at)))
+        add_words(&h, &run_rounds(h, load_block(b, at)))
     }
 
     fn write(h: [u32; 5]) -> [u8; 20] {

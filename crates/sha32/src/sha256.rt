@@ -4,13 +4,12 @@
 // are kept: each new one takes the place of the one sixteen before it, in the step whose round uses that one. Every call gives its place
 // as a literal, and so its index in the table of constants: neither needs an array in memory.
 ghost use Rattle.std.specs.Prelude.{◌≡◌, ◌+◌, ◌*◌, ◌<◌, ◌≤◌, length, take, drop, slice_index};
-ghost use Rattle.sha.specs.Words.{sums};
 ghost use Rattle.sha.specs.Sha2.{t1, t2, round, rounds, mix, mixed, schedule, core256, k256, sha256};
 ghost use Rattle.sha.specs.Window.{renewed, rolled, ran, round_of_core};
 ghost use Rattle.sha.proofs.Sizes.{sizes32};
 
 use super::load::load_block;
-use super::word::{Rotations, Sigmas, add, choose, majority, wide};
+use super::word::{Rotations, Sigmas, add, add_words, choose, majority, wide};
 use sha::HashFunction;
 
 // The initial hash value, section 5.3.3.
@@ -68,22 +67,6 @@ fn renew_word(m: [u32; 16], i: usize) -> [u32; 16]
     let mut w = m;
     w[i] = next_word::<Rotations>(w[(i + 14) % 16], w[(i + 9) % 16], w[(i + 1) % 16], w[i]);
     w
-}
-
-// The closing sum.
-fn add_words(h: [u32; 8], s: [u32; 8]) -> [u32; 8]
-    ensures { result ≡ sums 32 8 h s }
-{
-    [
-        add(h[0], s[0]),
-        add(h[1], s[1]),
-        add(h[2], s[2]),
-        add(h[3], s[3]),
-        add(h[4], s[4]),
-        add(h[5], s[5]),
-        add(h[6], s[6]),
-        add(h[7], s[7]),
-    ]
 }
 
 // The constants of sixteen rounds, from round t on.
@@ -155,7 +138,8 @@ fn step(x: State, k: [u32; 16], i: usize) -> State
     }
 }
 
-// Eight rounds of a turn, from place FROM on, with their new words.
+// Eight rounds of a turn, from place FROM on, with their new words. The places are written out, here and in `last_rounds`: a loop over them
+// keeps the words in memory, and takes more than twice the time.
 fn steps<const FROM: usize>(x: State, k: [u32; 16]) -> State
     requires { FROM + 8 ≤ 16 }
     ensures { (result.s ≡ ran (round_of_core core256 k) 0 FROM 8 x.s x.w) × (result.w ≡ rolled (mixed core256) FROM 8 x.w) }
@@ -232,7 +216,7 @@ impl HashFunction for Sha256 {
     }
 
     fn compress(h: [u32; 8], b: &[u8], at: usize) -> [u32; 8] {
-        add_words(h, run_rounds(h, load_block(b, at)))
+        add_words(&h, &run_rounds(h, load_block(b, at)))
     }
 
     fn write(h: [u32; 8]) -> [u8; 32] {
