@@ -6,7 +6,6 @@ use Prim.Native.Nat.{ℕ, ◌-◌, ◌<◌, ◌≤◌}
 use native.Mathlib.Omega.{arith}
 use lib.Dec.{eqb}
 use lib.ListN.{take, replicate}
-use lib.Seq.{take-take}
 use borrow.Author.Tests.{eqb-true, eqb-false}
 use Rattle.refusals.specs.Ranges.{lookup}
 use Rattle.refusals.proofs.Ranges.{misses}
@@ -58,28 +57,19 @@ module _ (k : ℕ) (m : List ℕ) where
   unfolding digest_of hash_of width_of slot_widths lookup
   of_sha384 h e = rw h (e ∙ sym (append-nil (digest sha384 m)))
 
-  -- words of 4 bytes: the digest is at the start of d, of which the kind's width is kept
-  module _ (d r : List ℕ) (w : ℕ) (er : r ≡ take w d ++ replicate (48 - w) 0) (ew : w ≡ width_of k) where
-    pub of_cut : (f : Hash) → hash_of k ≡ cut_to (width_of k) f → width_of k ≤ f.width → take f.width d ≡ digest f m
-        → r ≡ digest_of k m ++ replicate (48 - width_of k) 0
-    unfolding digest_of
-    of_cut f ef le e =
-        let t : take (width_of k) d ≡ digest (hash_of k) m =
-        sym (take-take (width_of k) f.width d le) ∙ ap (take (width_of k)) e ∙ sym (digest_cut f (width_of k) le m) ∙ rw (← ef) in
-        er ∙ rw (ew, t)
+  -- the first bytes of a function's digest
+  pub of_cut : (f : Hash) → hash_of k ≡ cut_to (width_of k) f → width_of k ≤ f.width → take (width_of k) (digest f m) ≡ digest_of k m
+  unfolding digest_of
+  of_cut f ef le = sym (digest_cut f (width_of k) le m) ∙ rw (← ef)
 
 -- words of 4 bytes have at most 32
-pub narrow_width : (k : ℕ) → (k ≡ sha384_type → ⊥) → width_of k ≤ 32
+narrow_width : (k : ℕ) → (k ≡ sha384_type → ⊥) → width_of k ≤ 32
 narrow_width k h =
     rw (← width_is k)
     (by_number (λ f. f.width ≤ 32) k (λ e. omega arith) (λ e. omega arith) (λ e. omega arith) (λ e. absurd (h e)) (λ a b c d. omega arith))
 
--- the functions of words of 4 bytes, of which the kinds are cuts
-pub cut_sha1 : (k : ℕ) → k ≡ sha1_type → (hash_of k ≡ cut_to (width_of k) sha1) × (width_of k ≤ 20)
-unfolding hash_of width_of slot_widths lookup
-cut_sha1 k e = rw e (refl, omega arith)
-
-pub cut_sha256 : (k : ℕ) → 0 < width_of k → (k ≡ sha1_type → ⊥) → (k ≡ sha384_type → ⊥) → (hash_of k ≡ cut_to (width_of k) sha256) × (width_of k ≤ 32)
+-- the kinds that are cuts of SHA-256
+cut_sha256 : (k : ℕ) → 0 < width_of k → (k ≡ sha1_type → ⊥) → (k ≡ sha384_type → ⊥) → (hash_of k ≡ cut_to (width_of k) sha256) × (width_of k ≤ 32)
 cut_sha256 k h h₁ h₄ = (
   rw (← width_is k)
       (by_number (λ f. 0 < f.width → f ≡ cut_to f.width sha256) k

@@ -22,3 +22,7 @@ digest_length k m = digests.digest_length (hash_of k) m (fits k) ∙ width_is k
 -- so it is the first bytes of what has it and zeros behind it
 pub digest_first : (k : ℕ) (m d : List ℕ) → d ≡ digest_of k m ++ replicate (48 - width_of k) 0 → take (width_of k) d ≡ digest_of k m
 digest_first k m d e = rw e (take_at (digest_of k m) (replicate (48 - width_of k) 0) (width_of k) (digest_length k m))
+
+-- and what has it alone is all of that, with zeros behind it
+pub extended : (k : ℕ) (m d r : List ℕ) → d ≡ digest_of k m → r ≡ d ++ replicate (48 - length d) 0 → r ≡ digest_of k m ++ replicate (48 - width_of k) 0
+extended k m d r ed er = er ∙ rw (ed, digest_length k m)

@@ -6,7 +6,8 @@
 ghost use Rattle.std.specs.Prelude.{◌≡◌, ◌≤◌, length};
 
 use layout::directory::CodeDirectory;
-use sha32::Function;
+use sha::HashFunction;
+use sha32::Sha256;
 use std::io;
 
 // The bytes of the longest message that is held whole.
@@ -60,14 +61,14 @@ fn print_pieces(rt: &impl Print, piece: &[u8], n: usize) -> io::Result<()>
 {
     let mut v = sha32::H256;
     for _ in 0..n / 8192 {
-        let next = sha32::absorb(Function::Sha256, v, piece);
+        let next = sha::absorb::<Sha256>(v, piece);
         v = next;
     }
     let last = n % 8192;
     let at = 64 * (last / 64);
-    let all = sha32::absorb(Function::Sha256, v, &piece[0..last]);
-    let value = sha32::finish(Function::Sha256, all, &piece[at..last], n);
-    print_line(rt, &sha32::write_value(value))
+    let all = sha::absorb::<Sha256>(v, &piece[0..last]);
+    let value = sha::finish::<Sha256>(all, &piece[at..last], n);
+    print_line(rt, &Sha256::write(value))
 }
 
 fn print_kind(rt: &impl Print, kind: usize) -> io::Result<()> {

@@ -2,7 +2,7 @@
 use mathlib.Core.Path.{◌≡◌, refl, sym, ap, ap₂, ◌∙◌}
 use mathlib.Core.List.{List, [], ◌∷◌, ◌++◌, append_assoc, append-nil}
 use Prim.Native.Nat.{ℕ, zero, suc, ◌+◌, ◌-◌, ◌*◌, ◌/◌, ◌%◌, ◌^◌, ◌<◌, ◌≤◌}
-use native.Mathlib.Nat.{add_assoc, mul-add, mul-suc, mul_comm, add-zero, add-suc, mul-one, mul-zero, pow-zero, pow-suc, div-one, div-div-eq-div-mul}
+use native.Mathlib.Nat.{add_assoc, mul-add, mul-suc, mul_comm, add-zero, add-suc, mul-one, mul-zero, pow-suc, div-div-eq-div-mul}
 use native.Mathlib.Numerals.{add-one}
 use native.Mathlib.Omega.{arith}
 use lib.ListN.{length, get_or, take, drop, set, replicate, length-append, take-append-drop, get_or-append}
@@ -63,11 +63,11 @@ chain_split f h l p n (suc k) le =
     ∙ sym (words_drop f.size 16 (16 * f.size * n) (l ++ p) (16 * f.size * k))
     ∙ ap (λ (x : List ℕ). words f.size 16 x (16 * f.size * k)) (drop-append-le (16 * f.size * n) l p le))
 
--- one block more; z is the bytes of a word
-pub chain_more : (f : Hash) (z : ℕ) → f.size ≡ z → (h m : List ℕ) (i : ℕ) {v r : List ℕ} → v ≡ chain f h m i → r ≡ f.block v (words z 16 m (16 * z * i))
+-- one block more
+pub chain_more : (f : Hash) (h m : List ℕ) (i at : ℕ) {v r : List ℕ} → at ≡ 16 * f.size * i → v ≡ chain f h m i → r ≡ f.block v (words f.size 16 m at)
     → r ≡ chain f h m (i + 1)
 unfolding chain
-chain_more f z ez h m i ev er = rw (add-one i, er, ev, ez)
+chain_more f h m i at ea ev er = rw (add-one i, er, ev, ea)
 
 -- STORES
 
@@ -79,48 +79,37 @@ store_zero : (p : List ℕ) (k i v : ℕ) → length p ≡ i → set (p ++ repli
 store_zero p k i v e = rw (add-one k) (set_at p 0 (replicate k 0) v i e)
 
 -- a number that is stored from its last byte on: a byte more, and the number without it
-pub put_more : (o : List ℕ) (at w i x : ℕ) → 0 < i → i ≤ w → at + w ≤ length o
-    → set (take (at + i) o ++ bytes (w - i) x ++ drop (at + w) o) (at + (i - 1)) (x / 256 ^ (w - i) % 256)
-    ≡ take (at + (i - 1)) o ++ bytes (w - (i - 1)) x ++ drop (at + w) o
+pub put_more : (o : List ℕ) (at w i x : ℕ) → i < w → at + w ≤ length o
+    → set (take (at + (w - i)) o ++ bytes i x ++ drop (at + w) o) (at + (w - 1 - i)) (x / 256 ^ i % 256)
+    ≡ take (at + (w - (i + 1))) o ++ bytes (i + 1) x ++ drop (at + w) o
 unfolding bytes
-put_more o at w i x pos le h =
-    let p : List ℕ = take (at + (i - 1)) o in
-    let g : ℕ = get_or o (at + (i - 1)) 0 in
-    let b : ℕ = x / 256 ^ (w - i) % 256 in
-    let q : List ℕ = bytes (w - i) x in
+put_more o at w i x lt h =
+    let k : ℕ = at + (w - (i + 1)) in
+    let p : List ℕ = take k o in
+    let g : ℕ = get_or o k 0 in
+    let b : ℕ = x / 256 ^ i % 256 in
+    let q : List ℕ = bytes i x in
     let d : List ℕ = drop (at + w) o in
-    let a : at + i ≡ suc (at + (i - 1)) = omega arith in
-    let n : w - (i - 1) ≡ suc (w - i) = omega arith in
-    let f : take (at + i) o ++ q ++ d ≡ p ++ g ∷ (q ++ d) =
+    let a : at + (w - i) ≡ suc k = omega arith in
+    let j : at + (w - 1 - i) ≡ k = omega arith in
+    let f : take (at + (w - i)) o ++ q ++ d ≡ p ++ g ∷ (q ++ d) =
     ap (λ (k : ℕ). take k o ++ q ++ d) a
-    ∙ ap (λ (l : List ℕ). l ++ q ++ d) (take-suc o (at + (i - 1)) 0 (omega arith))
+    ∙ ap (λ (l : List ℕ). l ++ q ++ d) (take-suc o k 0 (omega arith))
     ∙ append_assoc (p ++ (g ∷ [])) q d
     ∙ append_snoc p g (q ++ d) in
-    ap (λ (l : List ℕ). set l (at + (i - 1)) b) f
-    ∙ set_at p g (q ++ d) b (at + (i - 1)) (length-take-le (at + (i - 1)) o (omega arith))
+    ap₂ (λ (l : List ℕ) (y : ℕ). set l y b) f j
+    ∙ set_at p g (q ++ d) b k (length-take-le k o (omega arith))
     ∙ sym (append_assoc p (b ∷ q) d)
-    ∙ ap (λ (k : ℕ). p ++ bytes k x ++ d) (sym n)
+    ∙ ap (λ (n : ℕ). p ++ bytes n x ++ d) (sym (add-one i))
 
-pub shift_more : (w i x y : ℕ) → 0 < i → i ≤ w → y ≡ x / 256 ^ (w - i) → y / 256 ≡ x / 256 ^ (w - (i - 1))
-shift_more w i x y pos le e =
-    let n : w - (i - 1) ≡ suc (w - i) = omega arith in
-    rw (n, e, pow-suc 256 (w - i)) (div-div-eq-div-mul x (256 ^ (w - i)) 256)
+pub shift_more : (i x y : ℕ) → y ≡ x / 256 ^ i → y / 256 ≡ x / 256 ^ (i + 1)
+shift_more i x y e = rw (e, add-one i, pow-suc 256 i) (div-div-eq-div-mul x (256 ^ i) 256)
 
-pub put_first : (o : List ℕ) (at w x : ℕ) → o ≡ take (at + w) o ++ bytes (w - w) x ++ drop (at + w) o
+pub put_first : (o : List ℕ) (at w x : ℕ) → o ≡ take (at + (w - 0)) o ++ bytes 0 x ++ drop (at + w) o
 unfolding bytes
 put_first o at w x =
-    let n : w - w ≡ 0 = omega arith in
-    rw n (sym (ap (λ (l : List ℕ). l ++ drop (at + w) o) (append-nil (take (at + w) o)) ∙ take-append-drop (at + w) o))
-
-pub put_last : (o : List ℕ) (at w i x : ℕ) {u : List ℕ} → i ≡ 0 → u ≡ take (at + i) o ++ bytes (w - i) x ++ drop (at + w) o
-    → u ≡ take at o ++ bytes w x ++ drop (at + w) o
-put_last o at w i x e h =
-    let a : at + i ≡ at = omega arith in
-    let b : w - i ≡ w = omega arith in
-    h ∙ ap₂ (λ (j k : ℕ). take j o ++ bytes k x ++ drop (at + w) o) a b
-
-pub shift_first : (w x : ℕ) → x ≡ x / 256 ^ (w - w)
-shift_first w x = let n : w - w ≡ 0 = omega arith in rw (n, pow-zero 256) (sym (div-one x))
+    let k : at + (w - 0) ≡ at + w = omega arith in
+    rw k (sym (ap (λ (l : List ℕ). l ++ drop (at + w) o) (append-nil (take (at + w) o)) ∙ take-append-drop (at + w) o))
 
 -- a byte more of a copy into zeros
 pub copy_more : (s : List ℕ) (n i : ℕ) → i < length s → i < n
@@ -153,6 +142,10 @@ part_replicate (suc k) zero (suc n) a h = absurd (omega arith)
 part_replicate (suc k) (suc m) (suc n) a h = part_replicate k m (suc n) a (omega arith)
 
 -- BYTES of words
+
+pub all_bytes_none : (z : ℕ) (out h : List ℕ) → take (z * 0) out ≡ all_bytes z 0 h
+unfolding all_bytes
+all_bytes_none z out h = rw (mul-zero z) refl
 
 pub all_bytes_more : (z i : ℕ) (h out r : List ℕ) → z * i + z ≤ length out → take (z * i) out ≡ all_bytes z i h
     → r ≡ take (z * i) out ++ bytes z (get_or h i 0) ++ drop (z * i + z) out → take (z * (i + 1)) r ≡ all_bytes z (i + 1) h

@@ -1,11 +1,10 @@
--- How many bytes a digest has, where they stand in the words, and a digest cut short, over the hash function. Assumes nothing.
-use Prim.Native.Nat.{ℕ, zero, suc, ◌*◌, ◌/◌, ◌≤◌}
+-- How many bytes a digest has, those of the words that it is made of, and a digest cut short, over the hash function. Assumes nothing.
+use Prim.Native.Nat.{ℕ, zero, suc, ◌+◌, ◌*◌, ◌/◌, ◌≤◌}
 use mathlib.Core.List.{List}
-use mathlib.Core.Path.{◌≡◌, refl, sym, ap, ◌∙◌}
-use native.Mathlib.Nat.{add_comm}
+use mathlib.Core.Path.{◌≡◌, refl, sym, ap, ap₂, ◌∙◌}
 use native.Mathlib.Omega.{arith}
 use lib.ListN.{length, take}
-use lib.Seq.{length-take-le, take-take}
+use lib.Seq.{length-take-le, take-take, take_all}
 use Rattle.sha.specs.Message.{words, padded, all_bytes}
 use Rattle.sha.specs.Hash.{Hash, cut_to, chain, chained, digest}
 use Rattle.sha.proofs.Blocks.{length_all_bytes, all_bytes_take, all_bytes_front}
@@ -19,15 +18,14 @@ module _ (f : Hash) (m : List ℕ) where
   unfolding digest
   digest_length h = length-take-le f.width (all_bytes f.size f.count value) (omega (arith, length_all_bytes f.size f.count value))
 
-  -- the digest is at the start of the bytes of words whose first are the hash value
-  pub written : (n : ℕ) (v : List ℕ) → f.width ≤ f.size * n → f.width ≤ f.size * f.count → take f.count v ≡ value
-      → take f.width (all_bytes f.size n v) ≡ digest f m
-  unfolding digest
-  written n v hn hc e =
-      sym (all_bytes_front f.size n f.count f.width v hn)
-      ∙ ap (λ (k : ℕ). take f.width (all_bytes f.size k v)) (add_comm n f.count)
-      ∙ all_bytes_front f.size f.count n f.width v hc
-      ∙ ap (take f.width) (sym (all_bytes_take f.size f.count f.count v (omega arith)) ∙ ap (all_bytes f.size f.count) e)
+-- a digest of all bytes of the first k words, of k + j
+pub written : (z k j w : ℕ) (h u r : List ℕ) → u ≡ take k h → length u ≡ k → w ≡ z * k → r ≡ all_bytes z (length u) u → r ≡ take w (all_bytes z (k + j) h)
+written z k j w h u r eu lu ew er =
+    er
+    ∙ ap₂ (all_bytes z) lu eu
+    ∙ all_bytes_take z k k h (omega arith)
+    ∙ sym (take_all w (all_bytes z k h) (omega (arith, ew, length_all_bytes z k h)))
+    ∙ sym (all_bytes_front z k j w h (omega (arith, ew)))
 
 chain_same : (f : Hash) (n : ℕ) (h m : List ℕ) (i : ℕ) → chain (cut_to n f) h m i ≡ chain f h m i
 unfolding chain

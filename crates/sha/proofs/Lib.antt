@@ -11,3 +11,4 @@ pub mod Short
 pub mod Rotations
 pub mod Shifts
 pub mod Examples
+pub mod Sizes

@@ -106,7 +106,7 @@ last_renewed f near ms w t i sixteen wide at last j a b =
     record { wide = wide; held = λ j c d e. last j c d ∙ sym (grown_keeps f t 1 ms j (omega arith)) } in
     (held_renewed f near (t + 1) ms sixteen t i w at o).held j a b (omega arith)
 
--- EIGHT STEPS from place i on: a round with the word at its place, then the new word there
+-- EIGHT STEPS from place i on: a round with the word at its place, and the new word there. `number` is the number of the round at a place.
 
 -- a place that no new word took
 rolled_keeps : (f : Rule) (i n : ℕ) (w : List ℕ) (j : ℕ) → i + n ≤ j → j < 16 → get_or (rolled f i n w) j 0 ≡ get_or w j 0
@@ -116,28 +116,28 @@ rolled_keeps f i (suc n) w j a b =
     get_or-set_other (rolled f i n w) ((i + n) % 16) j (f (λ d. get_or (rolled f i n w) ((i + n + 16 - d) % 16) 0)) 0 (λ p. omega arith)
     ∙ rolled_keeps f i n w j (omega arith) b
 
-module _ (f : Rule) (g : Round) (t i : ℕ) (le : i + 8 ≤ 16) (s w : List ℕ) where
+module _ (f : Rule) (g : Round) (t i : ℕ) (number : ℕ → ℕ) (same : (p : ℕ) → number p ≡ t + p) (le : i + 8 ≤ 16) (s w : List ℕ) where
   -- after n steps
   abbrev Stepped : ℕ → List ℕ → List ℕ → Type 0
   Stepped n s' w' = (s' ≡ ran g t i n s w) × (w' ≡ rolled f i n w)
 
-  -- one step, at place i + n
+  -- one step, at place p
   abbrev Step : ℕ → List ℕ → List ℕ → List ℕ → List ℕ → Type 0
-  Step n s' w' s'' w'' = (s'' ≡ g (t + (i + n)) s' (get_or w' (i + n) 0)) × (w'' ≡ renewed f (i + n) w')
+  Step p s' w' s'' w'' = (s'' ≡ g (number p) s' (get_or w' p 0)) × (w'' ≡ renewed f p w')
 
-  more : (n : ℕ) {s' w' s'' w'' : List ℕ} → n < 8 → Stepped n s' w' → Step n s' w' s'' w'' → Stepped (suc n) s'' w''
+  more : (n : ℕ) {s' w' s'' w'' : List ℕ} → n < 8 → Stepped n s' w' → Step (i + n) s' w' s'' w'' → Stepped (suc n) s'' w''
   unfolding ran rolled
   more n h e d =
       let p : (i + n) % 16 ≡ i + n = omega arith in
-      (d.0 ∙ rw (e.0, e.1, p, rolled_keeps f i n w (i + n) (omega arith) (omega arith)), d.1 ∙ rw e.1)
+      (d.0 ∙ rw (same (i + n), e.0, e.1, p, rolled_keeps f i n w (i + n) (omega arith) (omega arith)), d.1 ∙ rw e.1)
 
   pub eight_steps : {s₁ s₂ s₃ s₄ s₅ s₆ s₇ s₈ w₁ w₂ w₃ w₄ w₅ w₆ w₇ w₈ : List ℕ}
-      → Step 0 s w s₁ w₁ → Step 1 s₁ w₁ s₂ w₂ → Step 2 s₂ w₂ s₃ w₃ → Step 3 s₃ w₃ s₄ w₄
-      → Step 4 s₄ w₄ s₅ w₅ → Step 5 s₅ w₅ s₆ w₆ → Step 6 s₆ w₆ s₇ w₇ → Step 7 s₇ w₇ s₈ w₈ → Stepped 8 s₈ w₈
+      → Step i s w s₁ w₁ → Step (i + 1) s₁ w₁ s₂ w₂ → Step (i + 2) s₂ w₂ s₃ w₃ → Step (i + 3) s₃ w₃ s₄ w₄
+      → Step (i + 4) s₄ w₄ s₅ w₅ → Step (i + 5) s₅ w₅ s₆ w₆ → Step (i + 6) s₆ w₆ s₇ w₇ → Step (i + 7) s₇ w₇ s₈ w₈ → Stepped 8 s₈ w₈
   unfolding ran rolled
   eight_steps d₁ d₂ d₃ d₄ d₅ d₆ d₇ d₈ =
       more 7 (omega arith) (more 6 (omega arith) (more 5 (omega arith) (more 4 (omega arith) (more 3 (omega arith) (more 2 (omega arith)
-      (more 1 (omega arith) (more 0 (omega arith) (refl, refl) d₁) d₂) d₃) d₄) d₅) d₆) d₇) d₈
+      (more 1 (omega arith) (more 0 (omega arith) (refl, refl) (rw (add-zero i) d₁)) d₂) d₃) d₄) d₅) d₆) d₇) d₈
 
 -- SIXTEEN ROUNDS with the words as they stand
 

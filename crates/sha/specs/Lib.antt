@@ -5,3 +5,4 @@ pub mod Schedule
 pub mod Sha1
 pub mod Sha2
 pub mod Window
+pub mod Sizes

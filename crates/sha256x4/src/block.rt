@@ -2,45 +2,22 @@
 //
 // Names are the standard's: a block's words w, the working words s (a to h), T1 and T2, the hash value h. Word i of message j stands at place
 // 4 * i + j, so that each operation meets four words in a row, which the compiler puts into one vector register. Sixteen words of each
-// message's schedule are kept, as in `sha32`; but in memory, since their places go by the round. T1, T2 and a new word differ from those of
-// `sha32` in the Σ and σ that they call.
+// message's schedule are kept, as in `sha32`; but in memory, since their places go by the round.
 ghost use Rattle.std.specs.Prelude.{◌≡◌, ◌+◌, ◌*◌, ◌%◌, ◌<◌, ◌≤◌, length, get_or};
-ghost use Rattle.sha.specs.Words.{sums};
 ghost use Rattle.sha.specs.Message.{words};
-ghost use Rattle.sha.specs.Sha2.{t1, t2, round, rounds, mix, mixed, schedule, compress, core256};
+ghost use Rattle.sha.specs.Sha2.{round, rounds, mix, mixed, schedule, compress, core256};
 ghost use Rattle.sha.specs.Window.{Last};
 ghost use Rattle.sha256x4.specs.Lanes.{lane, Four};
 
-use super::word::{big_sigma0, big_sigma1, small_sigma0, small_sigma1};
-use sha32::{K256, add, choose, majority, word_at};
-
-// T1 of a round.
-fn temp1(e: u32, f: u32, g: u32, h: u32, k: u32, w: u32) -> u32
-    ensures { result ≡ t1 core256 e f g h k w }
-{
-    add(add(add(add(h, big_sigma1(e)), choose(e, f, g)), k), w)
-}
-
-// T2 of a round.
-fn temp2(a: u32, b: u32, c: u32) -> u32
-    ensures { result ≡ t2 core256 a b c }
-{
-    add(big_sigma0(a), majority(a, b, c))
-}
-
-// A word of the schedule, from the words 2, 7, 15 and 16 places before it.
-fn next_word(w2: u32, w7: u32, w15: u32, w16: u32) -> u32
-    ensures { result ≡ mix core256 w2 w7 w15 w16 }
-{
-    add(add(add(small_sigma1(w2), w7), small_sigma0(w15)), w16)
-}
+use super::word::Shifts;
+use sha32::{K256, add, add_words, next_word, temp1, temp2, word_at};
 
 // Word t + 16 of message j's schedule, of which w holds the sixteen words from word t on, each at its place modulo 16.
 fn new_word(w: &[u32; 64], t: usize, j: usize) -> u32
     requires { (t < 48) × (j < 4) }
     ensures { result ≡ mix core256 (get_or w.now (4 * ((t + 14) % 16) + j) 0) (get_or w.now (4 * ((t + 9) % 16) + j) 0) (get_or w.now (4 * ((t + 1) % 16) + j) 0) (get_or w.now (4 * (t % 16) + j) 0) }
 {
-    next_word(
+    next_word::<Shifts>(
         w[4 * ((t + 14) % 16) + j],
         w[4 * ((t + 9) % 16) + j],
         w[4 * ((t + 1) % 16) + j],
@@ -60,14 +37,14 @@ fn words_at(w: &[u32; 64], i: usize) -> [u32; 4]
 fn round_step(s: [u32; 32], k: u32, w: [u32; 4]) -> [u32; 32]
     ensures { Four (λ j. lane 8 j result ≡ round core256 (lane 8 j s) k (get_or w j 0)) }
 {
-    let x0 = temp1(s[16], s[20], s[24], s[28], k, w[0]);
-    let x1 = temp1(s[17], s[21], s[25], s[29], k, w[1]);
-    let x2 = temp1(s[18], s[22], s[26], s[30], k, w[2]);
-    let x3 = temp1(s[19], s[23], s[27], s[31], k, w[3]);
-    let y0 = temp2(s[0], s[4], s[8]);
-    let y1 = temp2(s[1], s[5], s[9]);
-    let y2 = temp2(s[2], s[6], s[10]);
-    let y3 = temp2(s[3], s[7], s[11]);
+    let x0 = temp1::<Shifts>(s[16], s[20], s[24], s[28], k, w[0]);
+    let x1 = temp1::<Shifts>(s[17], s[21], s[25], s[29], k, w[1]);
+    let x2 = temp1::<Shifts>(s[18], s[22], s[26], s[30], k, w[2]);
+    let x3 = temp1::<Shifts>(s[19], s[23], s[27], s[31], k, w[3]);
+    let y0 = temp2::<Shifts>(s[0], s[4], s[8]);
+    let y1 = temp2::<Shifts>(s[1], s[5], s[9]);
+    let y2 = temp2::<Shifts>(s[2], s[6], s[10]);
+    let y3 = temp2::<Shifts>(s[3], s[7], s[11]);
     [
         add(x0, y0),
         add(x1, y1),
@@ -118,8 +95,8 @@ fn first_rounds(h: [u32; 32], m: [u32; 64]) -> State
     let k = K256;
     let mut s = h;
     let mut w = m;
-    let mut t: usize = 0;
-    while t < 48 {
+    for t in 0..48 {
+        // The prover takes a call's array into a name of its own alone.
         let n = round_step(s, k[t], words_at(&w, t % 16));
         s = n;
         let a = new_word(&w, t, 0);
@@ -131,7 +108,6 @@ fn first_rounds(h: [u32; 32], m: [u32; 64]) -> State
         w[i + 1] = b;
         w[i + 2] = c;
         w[i + 3] = d;
-        t += 1;
     }
     State { s, w }
 }
@@ -144,26 +120,11 @@ fn run_rounds(h: [u32; 32], m: [u32; 64]) -> [u32; 32]
     let x = first_rounds(h, m);
     let w = x.w;
     let mut s = x.s;
-    let mut t: usize = 48;
-    while t < 64 {
+    for t in 48..64 {
         let n = round_step(s, k[t], words_at(&w, t - 48));
         s = n;
-        t += 1;
     }
     s
-}
-
-// The closing sums.
-fn add_words(h: [u32; 32], s: [u32; 32]) -> [u32; 32]
-    ensures { result ≡ sums 32 32 h s }
-{
-    let mut r = [0u32; 32];
-    let mut i: usize = 0;
-    while i < 32 {
-        r[i] = add(h[i], s[i]);
-        i += 1;
-    }
-    r
 }
 
 // The words of four blocks, at byte `at` of each message.
@@ -172,8 +133,7 @@ fn load_blocks(a: &[u8], b: &[u8], c: &[u8], d: &[u8], at: usize) -> [u32; 64]
     ensures { (lane 16 0 result ≡ words 4 16 a.now at) × (lane 16 1 result ≡ words 4 16 b.now at) × (lane 16 2 result ≡ words 4 16 c.now at) × (lane 16 3 result ≡ words 4 16 d.now at) }
 {
     let mut w = [0u32; 64];
-    let mut i: usize = 0;
-    while i < 16 {
+    for i in 0..16 {
         let o = 4 * i;
         let x = word_at(a, at + o);
         let y = word_at(b, at + o);
@@ -183,7 +143,6 @@ fn load_blocks(a: &[u8], b: &[u8], c: &[u8], d: &[u8], at: usize) -> [u32; 64]
         w[o + 1] = y;
         w[o + 2] = z;
         w[o + 3] = v;
-        i += 1;
     }
     w
 }
@@ -193,5 +152,5 @@ pub fn compress_blocks(h: [u32; 32], a: &[u8], b: &[u8], c: &[u8], d: &[u8], at:
     requires { (at + 64 ≤ length a.now) × (at + 64 ≤ length b.now) × (at + 64 ≤ length c.now) × (at + 64 ≤ length d.now) }
     ensures { (lane 8 0 result ≡ compress core256 (lane 8 0 h) (words 4 16 a.now at)) × (lane 8 1 result ≡ compress core256 (lane 8 1 h) (words 4 16 b.now at)) × (lane 8 2 result ≡ compress core256 (lane 8 2 h) (words 4 16 c.now at)) × (lane 8 3 result ≡ compress core256 (lane 8 3 h) (words 4 16 d.now at)) }
 {
-    add_words(h, run_rounds(h, load_blocks(a, b, c, d, at)))
+    add_words(&h, &run_rounds(h, load_blocks(a, b, c, d, at)))
 }

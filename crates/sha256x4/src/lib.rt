@@ -7,28 +7,19 @@
 mod block;
 mod word;
 
-ghost use Rattle.std.specs.Prelude.{◌≡◌, ◌/◌, ◌<◌, length, take};
+ghost use Rattle.std.specs.Prelude.{◌≡◌, [], ◌∷◌, ◌/◌, ◌<◌, length};
 ghost use Rattle.sha.specs.Hash.{chain, digest};
 ghost use Rattle.sha.specs.Sha2.{sha256, h256};
 ghost use Rattle.sha256x4.specs.Lanes.{lane, Four};
 
 use block::compress_blocks;
-use sha32::Function;
-
-// The digests of four messages.
-#[derive(Clone, Copy)]
-pub struct FourDigests {
-    pub a: [u8; 32],
-    pub b: [u8; 32],
-    pub c: [u8; 32],
-    pub d: [u8; 32],
-}
+use sha32::{H256, Sha256};
 
 // The initial hash value of each message.
 fn start() -> [u32; 32]
     ensures { Four (λ j. lane 8 j result ≡ h256) }
 {
-    let h = sha32::H256;
+    let h = H256;
     [
         h[0], h[0], h[0], h[0], h[1], h[1], h[1], h[1], h[2], h[2], h[2], h[2], h[3], h[3], h[3],
         h[3], h[4], h[4], h[4], h[4], h[5], h[5], h[5], h[5], h[6], h[6], h[6], h[6], h[7], h[7],
@@ -41,13 +32,11 @@ fn absorb(a: &[u8], b: &[u8], c: &[u8], d: &[u8]) -> [u32; 32]
     requires { (length b.now ≡ length a.now) × (length c.now ≡ length a.now) × (length d.now ≡ length a.now) }
     ensures { (lane 8 0 result ≡ chain sha256 h256 a.now (length a.now / 64)) × (lane 8 1 result ≡ chain sha256 h256 b.now (length b.now / 64)) × (lane 8 2 result ≡ chain sha256 h256 c.now (length c.now / 64)) × (lane 8 3 result ≡ chain sha256 h256 d.now (length d.now / 64)) }
 {
-    let full = a.len() / 64;
     let mut v = start();
-    let mut i: usize = 0;
-    while i < full {
+    for i in 0..a.len() / 64 {
+        // The prover takes a call's array into a name of its own alone.
         let next = compress_blocks(v, a, b, c, d, 64 * i);
         v = next;
-        i += 1;
     }
     v
 }
@@ -55,9 +44,8 @@ fn absorb(a: &[u8], b: &[u8], c: &[u8], d: &[u8]) -> [u32; 32]
 // The digest of message j, from the hash values after the whole blocks.
 fn close(v: [u32; 32], j: usize, part: &[u8]) -> [u8; 32]
     requires { (j < 4) × (lane 8 j v ≡ chain sha256 h256 part.now (length part.now / 64)) }
-    ensures { take 32 result ≡ digest sha256 part.now }
+    ensures { result ≡ digest sha256 part.now }
 {
-    let at = 64 * (part.len() / 64);
     let h = [
         v[j],
         v[4 + j],
@@ -68,19 +56,19 @@ fn close(v: [u32; 32], j: usize, part: &[u8]) -> [u8; 32]
         v[24 + j],
         v[28 + j],
     ];
-    sha32::write_value(sha32::finish(Function::Sha256, h, &part[at..], part.len()))
+    sha::close::<Sha256>(h, part)
 }
 
 // The digests of four messages of one length.
-pub fn digests(a: &[u8], b: &[u8], c: &[u8], d: &[u8]) -> FourDigests
+pub fn digests(a: &[u8], b: &[u8], c: &[u8], d: &[u8]) -> [[u8; 32]; 4]
     requires { (length b.now ≡ length a.now) × (length c.now ≡ length a.now) × (length d.now ≡ length a.now) }
-    ensures { (take 32 result.a ≡ digest sha256 a.now) × (take 32 result.b ≡ digest sha256 b.now) × (take 32 result.c ≡ digest sha256 c.now) × (take 32 result.d ≡ digest sha256 d.now) }
+    ensures { result ≡ digest sha256 a.now ∷ digest sha256 b.now ∷ digest sha256 c.now ∷ digest sha256 d.now ∷ [] }
 {
     let v = absorb(a, b, c, d);
-    FourDigests {
-        a: close(v, 0, a),
-        b: close(v, 1, b),
-        c: close(v, 2, c),
-        d: close(v, 3, d),
-    }
+    [
+        close(v, 0, a),
+        close(v, 1, b),
+        close(v, 2, c),
+        close(v, 3, d),
+    ]
 }

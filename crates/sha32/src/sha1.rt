@@ -4,13 +4,16 @@
 // each new one stands in the place of the one sixteen before it, behind the round that uses that one. Every call gives
 // its place as a literal.
 ghost use Rattle.std.specs.Prelude.{◌≡◌, ◌+◌, ◌<◌, ◌≤◌, length, slice_index};
-ghost use Rattle.sha.specs.Words.{sums};
-ghost use Rattle.sha.specs.Message.{words};
-ghost use Rattle.sha.specs.Sha1.{f1, k1, mix1, mixed1, temp, round1, rounds1, schedule1, compress1};
+ghost use Rattle.sha.specs.Sha1.{f1, k1, mix1, mixed1, temp, round1, rounds1, schedule1, sha1};
+ghost use Rattle.sha.proofs.Sizes.{sizes32};
 ghost use Rattle.sha.specs.Window.{renewed, rolled, ran};
 
 use super::load::load_block;
-use super::word::{add, choose, majority, parity, rotate_left};
+use super::word::{add, add_words, choose, majority, parity, rotate_left, wide};
+use sha::HashFunction;
+
+// The initial hash value, section 5.3.1.
+const H1: [u32; 5] = [0x67452301, 0xefcdab89, 0x98badcfe, 0x10325476, 0xc3d2e1f0];
 
 // The function of round t, section 4.1.1.
 fn logical(t: usize, x: u32, y: u32, z: u32) -> u32
@@ -96,36 +99,20 @@ fn step(x: State, t: usize, i: usize) -> State
     }
 }
 
-// The first eight rounds of a turn of sixteen from t on, with their new words.
-fn steps_low(x: State, t: usize) -> State
-    requires { t ≤ 64 }
-    ensures { (result.s ≡ ran round1 t 0 8 x.s x.w) × (result.w ≡ rolled mixed1 0 8 x.w) }
+// Eight rounds of a turn of sixteen from t on, from place FROM on, with their new words. The places are written out, here and in
+// `last_rounds`: a loop over them keeps the words in memory, and takes more than twice the time.
+fn steps<const FROM: usize>(x: State, t: usize) -> State
+    requires { (t ≤ 64) × (FROM + 8 ≤ 16) }
+    ensures { (result.s ≡ ran round1 t FROM 8 x.s x.w) × (result.w ≡ rolled mixed1 FROM 8 x.w) }
 {
-    let x1 = step(x, t, 0);
-    let x2 = step(x1, t, 1);
-    let x3 = step(x2, t, 2);
-    let x4 = step(x3, t, 3);
-    let x5 = step(x4, t, 4);
-    let x6 = step(x5, t, 5);
-    let x7 = step(x6, t, 6);
-    let x8 = step(x7, t, 7);
-    x8
-}
-
-// The last eight rounds of the turn, with their new words.
-fn steps_high(x: State, t: usize) -> State
-    requires { t ≤ 64 }
-    ensures { (result.s ≡ ran round1 t 8 8 x.s x.w) × (result.w ≡ rolled mixed1 8 8 x.w) }
-{
-    let x1 = step(x, t, 8);
-    let x2 = step(x1, t, 9);
-    let x3 = step(x2, t, 10);
-    let x4 = step(x3, t, 11);
-    let x5 = step(x4, t, 12);
-    let x6 = step(x5, t, 13);
-    let x7 = step(x6, t, 14);
-    let x8 = step(x7, t, 15);
-    x8
+    let x1 = step(x, t, FROM);
+    let x2 = step(x1, t, FROM + 1);
+    let x3 = step(x2, t, FROM + 2);
+    let x4 = step(x3, t, FROM + 3);
+    let x5 = step(x4, t, FROM + 4);
+    let x6 = step(x5, t, FROM + 5);
+    let x7 = step(x6, t, FROM + 6);
+    step(x7, t, FROM + 7)
 }
 
 // The sixteen rounds of the last turn, which needs no new word.
@@ -147,8 +134,7 @@ fn last_rounds(s: [u32; 5], w: [u32; 16]) -> [u32; 5]
     let s13 = round_step(76, s12, w[12]);
     let s14 = round_step(77, s13, w[13]);
     let s15 = round_step(78, s14, w[14]);
-    let s16 = round_step(79, s15, w[15]);
-    s16
+    round_step(79, s15, w[15])
 }
 
 // The 80 rounds of the block m.
@@ -156,35 +142,46 @@ fn run_rounds(h: [u32; 5], m: [u32; 16]) -> [u32; 5]
     ensures { result ≡ rounds1 80 h (schedule1 64 m) }
 {
     let mut x = State { s: h, w: m };
-    let mut t: usize = 0;
-    while t < 64 {
-        let y = steps_low(x, t);
-        let z = steps_high(y, t);
-        x = z;
-        t += 16;
+    for turn in 0..4 {
+        let y = steps::<0>(x, 16 * turn);
+        x = steps::<8>(y, 16 * turn);
     }
-    let s = x.s;
-    let w = x.w;
-    last_rounds(s, w)
+    last_rounds(x.s, x.w)
 }
 
-// The closing sum.
-fn add_words(h: [u32; 5], s: [u32; 5]) -> [u32; 5]
-    ensures { result ≡ sums 32 5 h s }
-{
-    [
-        add(h[0], s[0]),
-        add(h[1], s[1]),
-        add(h[2], s[2]),
-        add(h[3], s[3]),
-        add(h[4], s[4]),
-    ]
-}
+// SHA-1, section 6.1.
+pub struct Sha1;
 
-// The hash value after the block at byte `at`.
-pub fn compress_block(h: [u32; 5], b: &[u8], at: usize) -> [u32; 5]
-    requires { at + 64 ≤ length b.now }
-    ensures { result ≡ compress1 h (words 4 16 b.now at) }
-{
-    add_words(h, run_rounds(h, load_block(b, at)))
+impl HashFunction for Sha1 {
+    type Value = [u32; 5];
+
+    type Digest = [u8; 20];
+
+    const BLOCK: usize = 64;
+
+    ghost BLOCK = { 64 };
+
+    const LENGTH: usize = 8;
+
+    ghost LENGTH = { 8 };
+
+    ghost hash = { sha1 };
+
+    ghost words_of = { λ h. h };
+
+    ghost bytes_of = { λ d. d };
+
+    fn start() -> [u32; 5] {
+        H1
+    }
+
+    fn compress(h: [u32; 5], b: &[u8], at: usize) -> [u32; 5] {
+        add_words(&h, &run_rounds(h, load_block(b, at)))
+    }
+
+    fn write(h: [u32; 5]) -> [u8; 20] {
+        sha::write_words(4, &wide(&h))
+    }
+
+    ghost sizes = { sizes32 };
 }

@@ -4,13 +4,18 @@
 // are kept: each new one takes the place of the one sixteen before it, in the step whose round uses that one. Every call gives its place
 // as a literal, and so its index in the table of constants: neither needs an array in memory.
 ghost use Rattle.std.specs.Prelude.{◌≡◌, ◌+◌, ◌*◌, ◌<◌, ◌≤◌, length, take, drop, slice_index};
-ghost use Rattle.sha.specs.Words.{sums};
-ghost use Rattle.sha.specs.Message.{words};
-ghost use Rattle.sha.specs.Sha2.{t1, t2, round, rounds, mix, mixed, schedule, compress, core256, k256};
+ghost use Rattle.sha.specs.Sha2.{t1, t2, round, rounds, mix, mixed, schedule, core256, k256, sha256};
 ghost use Rattle.sha.specs.Window.{renewed, rolled, ran, round_of_core};
+ghost use Rattle.sha.proofs.Sizes.{sizes32};
 
 use super::load::load_block;
-use super::word::{add, big_sigma0, big_sigma1, choose, majority, small_sigma0, small_sigma1};
+use super::word::{Rotations, Sigmas, add, add_words, choose, majority, wide};
+use sha::HashFunction;
+
+// The initial hash value, section 5.3.3.
+pub const H256: [u32; 8] = [
+    0x6a09e667, 0xbb67ae85, 0x3c6ef372, 0xa54ff53a, 0x510e527f, 0x9b05688c, 0x1f83d9ab, 0x5be0cd19,
+];
 
 // The round constants, section 4.2.2.
 pub const K256: [u32; 64] = [
@@ -25,33 +30,33 @@ pub const K256: [u32; 64] = [
 ];
 
 // T1 of a round.
-fn temp1(e: u32, f: u32, g: u32, h: u32, k: u32, w: u32) -> u32
+pub fn temp1<S: Sigmas>(e: u32, f: u32, g: u32, h: u32, k: u32, w: u32) -> u32
     ensures { result ≡ t1 core256 e f g h k w }
 {
-    add(add(add(add(h, big_sigma1(e)), choose(e, f, g)), k), w)
+    add(add(add(add(h, S::big_sigma1(e)), choose(e, f, g)), k), w)
 }
 
 // T2 of a round.
-fn temp2(a: u32, b: u32, c: u32) -> u32
+pub fn temp2<S: Sigmas>(a: u32, b: u32, c: u32) -> u32
     ensures { result ≡ t2 core256 a b c }
 {
-    add(big_sigma0(a), majority(a, b, c))
+    add(S::big_sigma0(a), majority(a, b, c))
 }
 
 // One round, with the constant k and the schedule's word w.
 fn round_step(s: [u32; 8], k: u32, w: u32) -> [u32; 8]
     ensures { result ≡ round core256 s k w }
 {
-    let x = temp1(s[4], s[5], s[6], s[7], k, w);
-    let y = temp2(s[0], s[1], s[2]);
+    let x = temp1::<Rotations>(s[4], s[5], s[6], s[7], k, w);
+    let y = temp2::<Rotations>(s[0], s[1], s[2]);
     [add(x, y), s[0], s[1], s[2], add(s[3], x), s[4], s[5], s[6]]
 }
 
 // A word of the schedule, from the words 2, 7, 15 and 16 places before it.
-fn next_word(w2: u32, w7: u32, w15: u32, w16: u32) -> u32
+pub fn next_word<S: Sigmas>(w2: u32, w7: u32, w15: u32, w16: u32) -> u32
     ensures { result ≡ mix core256 w2 w7 w15 w16 }
 {
-    add(add(add(small_sigma1(w2), w7), small_sigma0(w15)), w16)
+    add(add(add(S::small_sigma1(w2), w7), S::small_sigma0(w15)), w16)
 }
 
 // The sixteen words kept, with the word sixteen after the one at place i in its place.
@@ -60,24 +65,8 @@ fn renew_word(m: [u32; 16], i: usize) -> [u32; 16]
     ensures { result ≡ renewed (mixed core256) i m }
 {
     let mut w = m;
-    w[i] = next_word(w[(i + 14) % 16], w[(i + 9) % 16], w[(i + 1) % 16], w[i]);
+    w[i] = next_word::<Rotations>(w[(i + 14) % 16], w[(i + 9) % 16], w[(i + 1) % 16], w[i]);
     w
-}
-
-// The closing sum.
-fn add_words(h: [u32; 8], s: [u32; 8]) -> [u32; 8]
-    ensures { result ≡ sums 32 8 h s }
-{
-    [
-        add(h[0], s[0]),
-        add(h[1], s[1]),
-        add(h[2], s[2]),
-        add(h[3], s[3]),
-        add(h[4], s[4]),
-        add(h[5], s[5]),
-        add(h[6], s[6]),
-        add(h[7], s[7]),
-    ]
 }
 
 // The constants of sixteen rounds, from round t on.
@@ -149,34 +138,20 @@ fn step(x: State, k: [u32; 16], i: usize) -> State
     }
 }
 
-// The first eight rounds of a turn, with their new words.
-fn steps_low(x: State, k: [u32; 16]) -> State
-    ensures { (result.s ≡ ran (round_of_core core256 k) 0 0 8 x.s x.w) × (result.w ≡ rolled (mixed core256) 0 8 x.w) }
+// Eight rounds of a turn, from place FROM on, with their new words. The places are written out, here and in `last_rounds`: a loop over them
+// keeps the words in memory, and takes more than twice the time.
+fn steps<const FROM: usize>(x: State, k: [u32; 16]) -> State
+    requires { FROM + 8 ≤ 16 }
+    ensures { (result.s ≡ ran (round_of_core core256 k) 0 FROM 8 x.s x.w) × (result.w ≡ rolled (mixed core256) FROM 8 x.w) }
 {
-    let x1 = step(x, k, 0);
-    let x2 = step(x1, k, 1);
-    let x3 = step(x2, k, 2);
-    let x4 = step(x3, k, 3);
-    let x5 = step(x4, k, 4);
-    let x6 = step(x5, k, 5);
-    let x7 = step(x6, k, 6);
-    let x8 = step(x7, k, 7);
-    x8
-}
-
-// The last eight rounds of a turn, with their new words.
-fn steps_high(x: State, k: [u32; 16]) -> State
-    ensures { (result.s ≡ ran (round_of_core core256 k) 0 8 8 x.s x.w) × (result.w ≡ rolled (mixed core256) 8 8 x.w) }
-{
-    let x1 = step(x, k, 8);
-    let x2 = step(x1, k, 9);
-    let x3 = step(x2, k, 10);
-    let x4 = step(x3, k, 11);
-    let x5 = step(x4, k, 12);
-    let x6 = step(x5, k, 13);
-    let x7 = step(x6, k, 14);
-    let x8 = step(x7, k, 15);
-    x8
+    let x1 = step(x, k, FROM);
+    let x2 = step(x1, k, FROM + 1);
+    let x3 = step(x2, k, FROM + 2);
+    let x4 = step(x3, k, FROM + 3);
+    let x5 = step(x4, k, FROM + 4);
+    let x6 = step(x5, k, FROM + 5);
+    let x7 = step(x6, k, FROM + 6);
+    step(x7, k, FROM + 7)
 }
 
 // The sixteen rounds of the last turn, which needs no new word.
@@ -198,8 +173,7 @@ fn last_rounds(s: [u32; 8], w: [u32; 16], k: [u32; 16]) -> [u32; 8]
     let s13 = round_at(s12, w, k, 12);
     let s14 = round_at(s13, w, k, 13);
     let s15 = round_at(s14, w, k, 14);
-    let s16 = round_at(s15, w, k, 15);
-    s16
+    round_at(s15, w, k, 15)
 }
 
 // The 64 rounds of the block m.
@@ -207,23 +181,47 @@ fn run_rounds(h: [u32; 8], m: [u32; 16]) -> [u32; 8]
     ensures { result ≡ rounds core256 64 h (schedule core256 48 m) }
 {
     let mut x = State { s: h, w: m };
-    let mut turn: usize = 0;
-    while turn < 3 {
+    for turn in 0..3 {
         let k = constants(turn);
-        let y = steps_low(x, k);
-        let z = steps_high(y, k);
-        x = z;
-        turn += 1;
+        let y = steps::<0>(x, k);
+        x = steps::<8>(y, k);
     }
-    let s = x.s;
-    let w = x.w;
-    last_rounds(s, w, constants(3))
+    last_rounds(x.s, x.w, constants(3))
 }
 
-// The hash value after the block at byte `at`.
-pub fn compress_block(h: [u32; 8], b: &[u8], at: usize) -> [u32; 8]
-    requires { at + 64 ≤ length b.now }
-    ensures { result ≡ compress core256 h (words 4 16 b.now at) }
-{
-    add_words(h, run_rounds(h, load_block(b, at)))
+// SHA-256, section 6.2.
+pub struct Sha256;
+
+impl HashFunction for Sha256 {
+    type Value = [u32; 8];
+
+    type Digest = [u8; 32];
+
+    const BLOCK: usize = 64;
+
+    ghost BLOCK = { 64 };
+
+    const LENGTH: usize = 8;
+
+    ghost LENGTH = { 8 };
+
+    ghost hash = { sha256 };
+
+    ghost words_of = { λ h. h };
+
+    ghost bytes_of = { λ d. d };
+
+    fn start() -> [u32; 8] {
+        H256
+    }
+
+    fn compress(h: [u32; 8], b: &[u8], at: usize) -> [u32; 8] {
+        add_words(&h, &run_rounds(h, load_block(b, at)))
+    }
+
+    fn write(h: [u32; 8]) -> [u8; 32] {
+        sha::write_words(4, &wide(&h))
+    }
+
+    ghost sizes = { sizes32 };
 }

@@ -222,34 +222,19 @@ fn step(x: State, k: [u64; 16], i: usize) -> State
     }
 }
 
-// The first eight rounds of a turn, with their new words.
-fn steps_low(x: State, k: [u64; 16]) -> State
-    ensures { (result.s ≡ ran (round_of_core core512 k) 0 0 8 x.s x.w) × (result.w ≡ rolled (mixed core512) 0 8 x.w) }
+// Eight rounds of a turn, from place FROM on, with their new words.
+fn steps<const FROM: usize>(x: State, k: [u64; 16]) -> State
+    requires { FROM + 8 ≤ 16 }
+    ensures { (result.s ≡ ran (round_of_core core512 k) 0 FROM 8 x.s x.w) × (result.w ≡ rolled (mixed core512) FROM 8 x.w) }
 {
-    let x1 = step(x, k, 0);
-    let x2 = step(x1, k, 1);
-    let x3 = step(x2, k, 2);
-    let x4 = step(x3, k, 3);
-    let x5 = step(x4, k, 4);
-    let x6 = step(x5, k, 5);
-    let x7 = step(x6, k, 6);
-    let x8 = step(x7, k, 7);
-    x8
-}
-
-// The last eight rounds of a turn, with their new words.
-fn steps_high(x: State, k: [u64; 16]) -> State
-    ensures { (result.s ≡ ran (round_of_core core512 k) 0 8 8 x.s x.w) × (result.w ≡ rolled (mixed core512) 8 8 x.w) }
-{
-    let x1 = step(x, k, 8);
-    let x2 = step(x1, k, 9);
-    let x3 = step(x2, k, 10);
-    let x4 = step(x3, k, 11);
-    let x5 = step(x4, k, 12);
-    let x6 = step(x5, k, 13);
-    let x7 = step(x6, k, 14);
-    let x8 = step(x7, k, 15);
-    x8
+    let x1 = step(x, k, FROM);
+    let x2 = step(x1, k, FROM + 1);
+    let x3 = step(x2, k, FROM + 2);
+    let x4 = step(x3, k, FROM + 3);
+    let x5 = step(x4, k, FROM + 4);
+    let x6 = step(x5, k, FROM + 5);
+    let x7 = step(x6, k, FROM + 6);
+    step(x7, k, FROM + 7)
 }
 
 // The sixteen rounds of the last turn, which needs no new word.
@@ -271,8 +256,7 @@ fn last_rounds(s: [u64; 8], w: [u64; 16], k: [u64; 16]) -> [u64; 8]
     let s13 = round_at(s12, w, k, 12);
     let s14 = round_at(s13, w, k, 13);
     let s15 = round_at(s14, w, k, 14);
-    let s16 = round_at(s15, w, k, 15);
-    s16
+    round_at(s15, w, k, 15)
 }
 
 // The 80 rounds of the block m.
@@ -280,17 +264,12 @@ fn run_rounds(h: [u64; 8], m: [u64; 16]) -> [u64; 8]
     ensures { result ≡ rounds core512 80 h (schedule core512 64 m) }
 {
     let mut x = State { s: h, w: m };
-    let mut turn: usize = 0;
-    while turn < 4 {
+    for turn in 0..4 {
         let k = constants(turn);
-        let y = steps_low(x, k);
-        let z = steps_high(y, k);
-        x = z;
-        turn += 1;
+        let y = steps::<0>(x, k);
+        x = steps::<8>(y, k);
     }
-    let s = x.s;
-    let w = x.w;
-    last_rounds(s, w, constants(4))
+    last_rounds(x.s, x.w, constants(4))
 }
 
 // The hash value after the block at byte `at`.

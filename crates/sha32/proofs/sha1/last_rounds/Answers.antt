@@ -21,4 +21,4 @@ returns c = let a = c.args in
     c.round_step-s13.ensures
     c.round_step-s14.ensures
     c.round_step-s15.ensures
-    c.round_step-s16.ensures
+    c.round_step.ensures

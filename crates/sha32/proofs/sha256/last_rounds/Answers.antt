@@ -22,4 +22,4 @@ returns c = let a = c.args in
     c.round_at-s13.ensures
     c.round_at-s14.ensures
     c.round_at-s15.ensures
-    c.round_at-s16.ensures
+    c.round_at.ensures

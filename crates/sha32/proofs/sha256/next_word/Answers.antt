@@ -4,4 +4,4 @@ use Rattle.sha32.proofs.sha256.next_word.Goals as goal
 
 pub returns : goal.returns
 unfolding mix
-returns c = cc
+returns g c = cc

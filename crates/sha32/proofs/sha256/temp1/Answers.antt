@@ -4,4 +4,4 @@ use Rattle.sha32.proofs.sha256.temp1.Goals as goal
 
 pub returns : goal.returns
 unfolding t1
-returns c = cc
+returns g c = cc

@@ -4,4 +4,4 @@ use Rattle.sha32.proofs.sha256.temp2.Goals as goal
 
 pub returns : goal.returns
 unfolding t2
-returns c = cc
+returns g c = cc

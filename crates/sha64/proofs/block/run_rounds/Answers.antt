@@ -4,19 +4,18 @@ use Rattle.sha.proofs.Rounds.{turn_first, turn_more, turn_last}
 use Rattle.sha64.proofs.block.run_rounds.Goals as goal
 
 pub loop-turn-init : goal.loop-turn-init
-loop-turn-init c = (search rules, search rules, turn_first core512 64 _ _ (search rules))
+loop-turn-init c = (search rules, turn_first core512 64 _ _ (search rules))
 
 pub loop-turn-preserved : goal.loop-turn-preserved
 loop-turn-preserved c = let l = c.loop-turn in
     let a = c.args in (
-      search rules,
-      l.invariant.1,
-      turn_more core512 64 a.h a.m l.turn l.invariant.2 c.constants-k.ensures _ _ _ _ l.invariant.1 (omega arith)
-          c.steps_low-y.ensures c.steps_high-z.ensures,
+      l.invariant.0,
+      turn_more core512 64 a.h a.m l.turn l.invariant.1 c.constants-k.ensures _ _ _ _ l.invariant.0 (omega arith)
+          c.steps-y.ensures c.steps-x.ensures,
     )
 
 pub returns : goal.returns
 returns c = let l = c.loop-turn in
     let a = c.args in
     let e : l.turn ≡ 4 = omega arith in
-    turn_last core512 64 a.h a.m 4 (rw e at l.invariant.2) c.constants.ensures (omega arith) c.last_rounds.ensures
+    turn_last core512 64 a.h a.m 4 (rw e at l.invariant.1) c.constants.ensures (omega arith) c.last_rounds.ensures

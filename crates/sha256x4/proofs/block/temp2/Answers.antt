@@ -1,7 +1,0 @@
--- The calls' equations are the definition's. Assumes nothing.
-use Rattle.sha.specs.Sha2.{t2}
-use Rattle.sha256x4.proofs.block.temp2.Goals as goal
-
-pub returns : goal.returns
-unfolding t2
-returns c = cc

@@ -1,7 +1,0 @@
--- The shifts of the rotations, in the law's order (`small_sigma_shifts`). Assumes nothing.
-use native.Mathlib.Omega.{arith}
-use Rattle.sha.proofs.Shifts.{small_sigma_shifts}
-use Rattle.sha256x4.proofs.word.small_sigma0.Goals as goal
-
-pub returns : goal.returns
-returns c = small_sigma_shifts 32 7 18 3 _ (omega arith) (omega arith) (omega arith)

@@ -1,0 +1,7 @@
+-- The digest is the bytes of all words (`written`). Assumes nothing.
+use Rattle.std.proofs.Common.{refl, sym, ◌∙◌, take_all, rules}
+use Rattle.sha.proofs.Digests.{written}
+use Rattle.sha32.proofs.sha1.Sha1HashFunction.write.Goals as goal
+
+pub returns : goal.returns
+returns c = written 4 5 0 20 c.args.h c.wide.result _ (c.wide.ensures ∙ sym (take_all 5 c.args.h (search rules))) (search rules) refl c.write_words.ensures
