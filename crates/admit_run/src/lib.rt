@@ -122,7 +122,8 @@ fn read_part(buffer: &[u8], read: Option<usize>) -> Option<&[u8]>
     Some(&buffer[..read?])
 }
 
-// What is said of the files of three names, which are read into the buffers.
+// What is said of the files of three names, which are read into the buffers. Each buffer is a parameter of its own, since `SaidIn` speaks
+// of each.
 fn read_and_say(
     files: &impl Files,
     signature_name: &[u8],

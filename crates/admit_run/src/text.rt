@@ -1,4 +1,5 @@
-// A line as the bytes that the program writes.
+// A line as the bytes that the program writes. They are put into a buffer, since `Text` says which they are, and no clause says it of
+// `write!` to a runtime.
 ghost use Rattle.std.specs.Prelude.{◌≡◌, ◌++◌, ◌+◌, ◌≤◌, length, take};
 ghost use Rattle.admit_run.specs.Text.{most_digits, longest_line, Text, NumberAndPlace, WroteNumber};
 

@@ -136,9 +136,8 @@ fn slots(rt: &impl Print, arena: &Arena) -> io::Result<()> {
 // The first 20 bytes of a field; zeros where it is shorter.
 fn hash_of(field: &[u8]) -> [u8; 20] {
     let mut hash = [0u8; 20];
-    for (to, from) in hash.iter_mut().zip(field) {
-        *to = *from;
-    }
+    let n = field.len().min(20);
+    hash[..n].copy_from_slice(&field[..n]);
     hash
 }
 

@@ -22,7 +22,8 @@ fn numbered(template: &[u8; RECORD], number: usize) -> [u8; RECORD] {
     record
 }
 
-// Fills a buffer with numbered records, of which the last may be cut.
+// Fills a buffer with numbered records, of which the last may be cut. They are copied by a loop, since the search does not find that no chunk
+// is longer than a record.
 fn number(template: &[u8; RECORD], out: &mut [u8]) {
     for (number, record) in out.chunks_mut(RECORD).enumerate() {
         let whole = numbered(template, number);
