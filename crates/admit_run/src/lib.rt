@@ -10,9 +10,10 @@ ghost use Rattle.std.specs.Prelude.{◌≡◌, ◌<◌, ◌≤◌, length, take,
 ghost use Rattle.std.specs.Option.{ForSome, option_copied, option_map};
 ghost use Rattle.admit_run.specs.Small.{most_signature_file, most_image_file, most_cache_file, judged_file, outcome, small_line, marks_wanted, small_verdict, SaidIn, Said};
 
-use admission::Verdict;
+use admission::{Beside, Verdict};
 use files::load;
 use layout::directory::CodeDirectory;
+use slots::SideFiles;
 use std::env::FillError;
 use std::io;
 use std::rt::{Env, Files};
@@ -79,7 +80,7 @@ fn line_of(
 }
 
 // The whole check of three files.
-fn admit(signature: &[u8], image: &[u8], cache: &[u8], marks: &mut [u8]) -> Verdict
+fn admit<'a>(signature: &'a [u8], image: &[u8], cache: &'a [u8], marks: &mut [u8]) -> Verdict
     requires { length signature.now ≤ length marks.old }
     ensures { result ≡ small_verdict signature.now image.now cache.now }
 {
@@ -91,26 +92,26 @@ fn admit(signature: &[u8], image: &[u8], cache: &[u8], marks: &mut [u8]) -> Verd
         validation_category: 0,
         parent_is_init: false,
     };
-    admission::check(
+    let sides = SideFiles {
+        info: None,
+        resources: None,
+    };
+    let lent = Beside {
         signature,
-        image,
-        &mut marks[0..n],
         cache,
-        false,
-        b"",
-        false,
-        b"",
+        sides,
         launch,
-    )
+    };
+    admission::check(image, &mut marks[0..n], lent)
 }
 
 // How many marks test 20 wants; 0 where a test before it refuses.
 fn marks_wanted(signature: &[u8]) -> usize
     ensures { (result ≡ marks_wanted signature.now) × (result ≤ length signature.now) }
 {
-    if directory::tested(signature, 0).number != 0 {
+    let Ok(()) = directory::tested(signature, 0) else {
         return 0;
-    }
+    };
     CodeDirectory::read(superblob::blob_of(signature, CodeDirectory::TYPE)).code_slots
 }
 

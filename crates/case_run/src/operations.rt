@@ -2,6 +2,9 @@
 use crate::readers::print_readers;
 use corpus::Arena;
 use layout::directory::CodeDirectory;
+use layout::kinds::HashKind;
+use refusals::{Answer, Refusal};
+use slots::SideFiles;
 use std::io;
 use trustcache::Launch;
 
@@ -114,22 +117,26 @@ fn launch(facts: &[u8]) -> Launch {
     }
 }
 
-// Tests 1 to 18, then 21 to 23.
-fn slots(rt: &impl Print, arena: &Arena) -> io::Result<()> {
-    let sig = part(arena, Field::Signature);
-    let facts = part(arena, Field::Facts);
-    let read = directory::tested(sig, 0);
-    if read.number != 0 {
-        return print_line(rt, read.number, read.place);
-    }
-    let answer = slots::tested(
-        sig,
-        superblob::blob_of(sig, CodeDirectory::TYPE),
+// The side files of a case, each with its flag in the facts.
+fn sides<'a>(arena: &'a Arena, facts: &[u8]) -> SideFiles<'a> {
+    SideFiles::lent(
         flag(facts, 0),
         part(arena, Field::Info),
         flag(facts, 1),
         part(arena, Field::Resources),
-    );
+    )
+}
+
+// Tests 1 to 18, then 21 to 23.
+fn slots_tested(sig: &[u8], sides: SideFiles<'_>) -> Result<(), Refusal> {
+    directory::tested(sig, 0)?;
+    let d = superblob::blob_of(sig, CodeDirectory::TYPE);
+    slots::tested(sig, d, sides)
+}
+
+fn slots(rt: &impl Print, arena: &Arena) -> io::Result<()> {
+    let sides = sides(arena, part(arena, Field::Facts));
+    let answer = Answer::from(slots_tested(part(arena, Field::Signature), sides));
     print_line(rt, answer.number, answer.place)
 }
 
@@ -145,12 +152,12 @@ fn hash_of(field: &[u8]) -> [u8; 20] {
 fn cache(rt: &impl Print, arena: &Arena) -> io::Result<()> {
     let hash = hash_of(part(arena, Field::Hash));
     let facts = launch(part(arena, Field::Facts));
-    let answer = trustcache::tested(
+    let answer = Answer::from(trustcache::tested(
         part(arena, Field::Cache),
-        CodeDirectory::SHA256,
+        HashKind::Sha256.number(),
         hash,
         facts,
-    );
+    ));
     print_line(rt, answer.number, answer.place)
 }
 

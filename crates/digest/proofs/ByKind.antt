@@ -9,7 +9,8 @@ use lib.ListN.{take, replicate}
 use borrow.Author.Tests.{eqb-true, eqb-false}
 use Rattle.refusals.specs.Ranges.{lookup}
 use Rattle.refusals.proofs.Ranges.{misses}
-use Rattle.layout.specs.CodeDirectory.{sha1_type, sha256_type, truncated_type, sha384_type, slot_widths, width_of}
+use Rattle.layout.specs.declared.kinds.HashKind.{HashKind}
+use Rattle.layout.specs.CodeDirectory.{kind_number, sha1_type, sha256_type, truncated_type, sha384_type, slot_widths, width_of}
 use Rattle.sha.specs.Hash.{Hash, cut_to, digest}
 use Rattle.sha.specs.Sha1.{sha1}
 use Rattle.sha.specs.Sha2.{sha256, sha384}
@@ -105,3 +106,7 @@ kinds_plainly =
       by_sha384 = λ m. refl;
       unknown = not_known;
     }
+
+-- the number of the kind that was found
+pub of_kind : {k v : HashKind} {n : ℕ} → k ≡ v → kind_number k ≡ n → kind_number v ≡ n
+of_kind e h = ap kind_number (sym e) ∙ h

@@ -6,6 +6,7 @@
 ghost use Rattle.std.specs.Prelude.{◌≡◌, ◌≤◌, length};
 
 use layout::directory::CodeDirectory;
+use layout::kinds::HashKind;
 use sha::HashFunction;
 use sha32::Sha256;
 use std::io;
@@ -101,11 +102,11 @@ fn print_kind(rt: &impl Print, kind: usize) -> io::Result<()> {
 }
 
 fn main(rt: HostRuntime) -> io::Result<()> {
-    print_kind(&rt, CodeDirectory::SHA1)?;
-    print_kind(&rt, CodeDirectory::SHA256)?;
+    print_kind(&rt, HashKind::Sha1.number())?;
+    print_kind(&rt, HashKind::Sha256.number())?;
     print_pieces(&rt, &[b'Z'; 8192], 536870912)?;
-    print_kind(&rt, CodeDirectory::SHA256_TRUNCATED)?;
-    print_kind(&rt, CodeDirectory::SHA384)?;
+    print_kind(&rt, HashKind::Sha256Truncated.number())?;
+    print_kind(&rt, HashKind::Sha384.number())?;
     print_digest(&rt, 0, b"abc")?;
     print_digest(&rt, 5, b"abc")?;
     let full =

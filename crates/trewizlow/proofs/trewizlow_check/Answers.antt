@@ -1,6 +1,4 @@
 -- What is lent with a flag is what the flags leave.
-use Prim.Native.Nat.{ℕ}
-use mathlib.Core.List.{List}
 use mathlib.Core.Path.{ap, ◌∙◌}
 use Rattle.slots.specs.Slots.{Sides}
 use Rattle.admission.specs.Check.{check_of}
