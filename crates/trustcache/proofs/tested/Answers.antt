@@ -12,7 +12,7 @@ use Rattle.trustcache.specs.Launch.{launch_rows}
 use Rattle.trustcache.specs.Table.{cache_rows, cache_answer}
 use Rattle.refusals.proofs.Joined.{stops_at, stops_alone, passed_at, goes_on}
 use Rattle.std.proofs.lemmas.Result.{err_from_is_err_and}
-use Rattle.refusals.proofs.Results.{refused}
+use Rattle.refusals.proofs.Results.{refused, err_stops, ok_passes}
 use Rattle.trustcache.proofs.tested.Goals as goal
 
 -- no row gives 0
@@ -28,15 +28,11 @@ launch_unused : (category : ℕ) (facts : Launch) → Unused (launch_rows catego
 unfolding launch_rows
 launch_unused category facts = tt
 
-module _ (c : List ℕ) (kind : ℕ) (h : List ℕ) (facts : Launch) (form : Answer) (e : form ≡ first (form_rows c) accepted) where
-  form-stops : (form.number ≡ 0 → ⊥) → form ≡ cache_answer c kind h facts
-  unfolding cache_rows
-  form-stops ne = stops_at (form_rows c) _ accepted _ form refl e ne
-
-module _ (c : List ℕ) (kind : ℕ) (h : List ℕ) (facts : Launch) (form found : Answer) (e : form ≡ first (form_rows c) accepted) (z : form.number ≡ 0)
+-- where 24 and 25 pass, and 26 to 28 answer `found`
+module _ (c : List ℕ) (kind : ℕ) (h : List ℕ) (facts : Launch) (found : Answer) (e : accepted ≡ first (form_rows c) accepted)
     (f : Passes (form_rows c) → found ≡ first (lookup_rows c kind h) (refuse 0 (entry_of c h))) where
   form-passes : Passes (form_rows c)
-  form-passes = passed_at (form_rows c) accepted form (form_unused c) e z
+  form-passes = ok_passes (form_rows c) (form_unused c) e
 
   found-stops : (found.number ≡ 0 → ⊥) → found ≡ cache_answer c kind h facts
   unfolding cache_rows
@@ -69,19 +65,20 @@ module _ (c : List ℕ) (kind : ℕ) (h : List ℕ) (facts : Launch) (form found
           (passed_at (launch_rows (category_at c (entry_of c h)) facts) accepted launch (launch_unused _ facts) launch-is x))
 
 pub returns-in_err-form_tested : goal.returns-in_err-form_tested
+unfolding cache_rows
 returns-in_err-form_tested c =
     let p = err_from_is_err_and c.from_residual.result c.from_residual.ensures.1 in
-    rw (p.1, p.2) (form-stops _ _ _ _ _ c.in_err-form_tested.ensures (refused _))
+    rw (p.1, p.2) (err_stops (form_rows _) _ _ _ c.in_err-form_tested.ensures)
 
 pub returns-in_err-found : goal.returns-in_err-found
 returns-in_err-found c =
     let p = err_from_is_err_and c.from_residual-in_err-found.result c.from_residual-in_err-found.ensures.1 in
-    rw (p.1, p.2) (found-stops _ _ _ _ accepted _ c.in_ok-form_tested.ensures refl c.in_err-found.ensures.answer_is (refused _))
+    rw (p.1, p.2) (found-stops _ _ _ _ _ c.in_ok-form_tested.ensures c.in_err-found.ensures.answer_is (refused _))
 
 pub returns-in_err-launch_tested : goal.returns-in_err-launch_tested
 returns-in_err-launch_tested c =
     let p = err_from_is_err_and c.from_residual-in_err-launch_tested.result c.from_residual-in_err-launch_tested.ensures.1 in
-    rw (p.1, p.2) (launch-stops _ _ _ _ accepted _ c.in_ok-form_tested.ensures refl c.in_ok-found.ensures.answer_is refl _ _ c.read.ensures.category_is c.in_err-launch_tested.ensures (refused _))
+    rw (p.1, p.2) (launch-stops _ _ _ _ _ c.in_ok-form_tested.ensures c.in_ok-found.ensures.answer_is refl _ _ c.read.ensures.category_is c.in_err-launch_tested.ensures (refused _))
 
 pub returns : goal.returns
-returns c = launch-passes _ _ _ _ accepted _ c.in_ok-form_tested.ensures refl c.in_ok-found.ensures.answer_is refl _ _ c.read.ensures.category_is c.in_ok-launch_tested.ensures refl
+returns c = launch-passes _ _ _ _ _ c.in_ok-form_tested.ensures c.in_ok-found.ensures.answer_is refl _ _ c.read.ensures.category_is c.in_ok-launch_tested.ensures refl
