@@ -1,7 +1,7 @@
 -- Laws of words that stand side by side: a word of a message, and four words written in a row, one for each message. Assumes nothing.
-use Prim.Native.Nat.{ℕ, zero, suc, ◌+◌, ◌-◌, ◌*◌, ◌<◌}
+use Prim.Native.Nat.{ℕ, zero, suc, ◌+◌, ◌*◌, ◌<◌}
 use mathlib.Core.Path.{◌≡◌, refl, sym, ap, ◌∙◌}
-use mathlib.Core.List.{List, [], ◌∷◌, ◌++◌, append-nil}
+use mathlib.Core.List.{List, [], ◌∷◌, ◌++◌}
 use mathlib.Core.Bool.{Bool, true, false}
 use mathlib.Core.Logic.{⊎_elim}
 use native.Mathlib.Nat.{add-zero, zero-add, eq-or-lt_of_le}
@@ -9,10 +9,9 @@ use native.Mathlib.Numerals.{add-one}
 use native.Mathlib.Omega.{arith}
 use lib.Dec.{eqb}
 use borrow.Author.Tests.{eqb-true, eqb-false}
-use lib.ListN.{length, get_or, take, set, replicate, length-append, length-set, get_or-append}
-use lib.Seq.{take_all, ext_get_or, get_or_at, get_or-set_same, get_or-set_other}
-use Rattle.sha.specs.Words.{plus, sums}
-use Rattle.sha.proofs.Blocks.{copy_more}
+use lib.ListN.{length, get_or, set, length-append, length-set, get_or-append}
+use lib.Seq.{ext_get_or, get_or_at, get_or-set_same, get_or-set_other}
+use Rattle.sha.specs.Words.{sums}
 use Rattle.sha256x4.specs.Lanes.{lane, Four}
 
 -- lists that grow by one element at their end: their length, and their elements

@@ -3,6 +3,9 @@
 // Names are the standard's: a block's words w, the working words s (a to h), T1 and T2, the hash value h. Sixteen words of the schedule
 // are kept: each new one takes the place of the one sixteen before it, in the step whose round uses that one. Every call gives its place
 // as a literal, and so its index in the table of constants: neither needs an array in memory.
+//
+// `sha32` has the same rounds for words of 32 bits. One text for both would hold arrays of a type parameter, whose size and length a proof
+// does not know.
 ghost use Rattle.std.specs.Prelude.{◌≡◌, ◌+◌, ◌*◌, ◌<◌, ◌≤◌, length, take, drop, slice_index};
 ghost use Rattle.sha.specs.Words.{sums};
 ghost use Rattle.sha.specs.Message.{words};
@@ -222,7 +225,8 @@ fn step(x: State, k: [u64; 16], i: usize) -> State
     }
 }
 
-// Eight rounds of a turn, from place FROM on, with their new words.
+// Eight rounds of a turn, from place FROM on, with their new words. The places are written out, here and in `last_rounds`: a loop over them
+// keeps the words in memory, and takes more than twice the time.
 fn steps<const FROM: usize>(x: State, k: [u64; 16]) -> State
     requires { FROM + 8 ≤ 16 }
     ensures { (result.s ≡ ran (round_of_core core512 k) 0 FROM 8 x.s x.w) × (result.w ≡ rolled (mixed core512) FROM 8 x.w) }

@@ -3,26 +3,21 @@ ghost use Rattle.std.specs.Prelude.{◌≡◌, ◌+◌, ◌<◌, ◌≤◌, leng
 ghost use Rattle.endian.specs.Numbers.{big};
 ghost use Rattle.sha.specs.Message.{words};
 
-fn wide(x: u8) -> u64
-    ensures { (result ≡ x) × (result < 256) }
-{
-    x as u64
-}
-
-// Four bytes from byte j on, the first the most significant.
-fn half_at(b: &[u8], j: usize) -> u64
-    requires { j + 4 ≤ length b.now }
-    ensures { (result ≡ big 4 b.now j) × (result < 4294967296) }
-{
-    wide(b[j]) * 16777216 + wide(b[j + 1]) * 65536 + wide(b[j + 2]) * 256 + wide(b[j + 3])
-}
-
 // The big-endian word at byte j.
 fn word_at(b: &[u8], j: usize) -> u64
     requires { j + 8 ≤ length b.now }
     ensures { result ≡ big 8 b.now j }
 {
-    half_at(b, j) * 4294967296 + half_at(b, j + 4)
+    u64::from_be_bytes([
+        b[j],
+        b[j + 1],
+        b[j + 2],
+        b[j + 3],
+        b[j + 4],
+        b[j + 5],
+        b[j + 6],
+        b[j + 7],
+    ])
 }
 
 // The sixteen words of the block at byte `at`.

@@ -1,6 +1,7 @@
 // The functions of FIPS 180-4, section 4.1.3, on words of 64 bits. Ch and Maj are computed in forms that take fewer operations
 // than the standard's (`ch_short` and `maj_short` of `sha`). The sigmas rotate around a rotation (`big_sigma_nested`, `small_sigma_nested`),
 // which takes fewer copies of the word where a rotation overwrites what it rotates; but for Σ1, on whose result a round waits longest.
+// That add, rotate, Ch and Maj stand here and in `sha32`: the reason is there.
 ghost use Rattle.std.specs.Prelude.{◌≡◌, ◌<◌};
 ghost use Rattle.sha.specs.Words.{plus, rotr, ch, maj, big_sigma, small_sigma};
 

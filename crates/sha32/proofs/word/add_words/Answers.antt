@@ -1,4 +1,4 @@
-use Rattle.std.proofs.Common.{◌≡◌, ℕ, suc, ◌+◌, ◌<◌, List, [], ◌∷◌, ◌++◌, length, get_or, take, set, refl, sym, ap, ◌∙◌, arith, add-one, take_all}
+use Rattle.std.proofs.Common.{◌≡◌, ℕ, ◌+◌, ◌<◌, List, length, get_or, take, set, refl, sym, ◌∙◌, arith, add-one, take_all}
 use Rattle.std.proofs.lemmas.List.{length-replicate, length-set, take_more_set}
 use Rattle.sha.specs.Words.{plus, sums}
 use Rattle.sha32.proofs.word.add_words.Goals as goal

@@ -1,8 +1,0 @@
--- The sum of the four bytes is the number that they make. Assumes nothing.
-use Rattle.std.proofs.Common.{add-zero, arith}
-use Rattle.endian.specs.Numbers.{big}
-use Rattle.sha64.proofs.load.half_at.Goals as goal
-
-pub returns : goal.returns
-unfolding big
-returns c = (rw add-zero (omega arith), omega arith)
