@@ -2,8 +2,8 @@
 use native.Mathlib.Omega.{arith}
 use lib.ListN.{length}
 use Rattle.admission.proofs.Read.{Inside, here_of, marked_of, from_page, met_inside, met_here, met_marked}
-use Rattle.admission.proofs.range.rewrite_marks.Goals as goal
-use Rattle.admission.proofs.range.rewrite_marks.Goals.{After-end_met-end}
+use Rattle.admission.proofs.range.Call.rewrite_marks.Goals as goal
+use Rattle.admission.proofs.range.Call.rewrite_marks.Goals.{After-end_met-end}
 
 inside : (c : After-end_met-end) → Inside c.first_met-first.result c.end_met-end.result (length c.args.marks.now)
 inside c = met_inside _ _ _ _ _ c.requires _ _ _ c.pages_of-all.ensures.p_is c.first_met-first.ensures c.end_met-end.ensures
