@@ -87,10 +87,10 @@ fn mark_four(
     let d = page_bytes(p, limit, from, n3, bytes);
     if digest::side_by_side(kind, a, b, c, d) {
         let x = digest::digest_four(kind, a, b, c, d);
-        let xa = x.a;
-        let xb = x.b;
-        let xc = x.c;
-        let xd = x.d;
+        let xa = x[0];
+        let xb = x[1];
+        let xc = x[2];
+        let xd = x[3];
         return FourMarks {
             count: 4,
             marks: [
