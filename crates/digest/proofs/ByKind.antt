@@ -1,6 +1,7 @@
 -- Laws of the kinds: what holds of each of the four, and of none, holds of the kind by its number. Assumes nothing.
 use mathlib.Core.Path.{◌≡◌, refl, sym, ap, ◌∙◌}
 use mathlib.Core.Bool.{Bool, true, false, cond}
+use mathlib.Core.Logic.{◌⊎◌, inl, inr}
 use mathlib.Core.List.{List, [], ◌++◌, append-nil}
 use Prim.Native.Nat.{ℕ, ◌-◌, ◌<◌, ◌≤◌}
 use native.Mathlib.Omega.{arith}
@@ -10,6 +11,7 @@ use borrow.Author.Tests.{eqb-true, eqb-false}
 use Rattle.refusals.specs.Ranges.{lookup}
 use Rattle.refusals.proofs.Ranges.{misses}
 use Rattle.layout.specs.declared.kinds.HashKind.{HashKind}
+use Rattle.layout.specs.declared.kinds.HashKind.TheVariants as kind
 use Rattle.layout.specs.CodeDirectory.{kind_number, sha1_type, sha256_type, truncated_type, sha384_type, slot_widths, width_of}
 use Rattle.sha.specs.Hash.{Hash, cut_to, digest}
 use Rattle.sha.specs.Sha1.{sha1}
@@ -110,3 +112,8 @@ kinds_plainly =
 -- the number of the kind that was found
 pub of_kind : {k v : HashKind} {n : ℕ} → k ≡ v → kind_number k ≡ n → kind_number v ≡ n
 of_kind e h = ap kind_number (sym e) ∙ h
+
+-- the two kinds that are cuts of SHA-256
+pub cut_kind : (k : HashKind) (n : ℕ) → (k ≡ kind.Sha256) ⊎ (k ≡ kind.Sha256Truncated) → kind_number k ≡ n → (sha256_type ≤ n) × (n ≤ truncated_type)
+cut_kind k n (inl e) h = let m = of_kind e h in (omega arith, omega arith)
+cut_kind k n (inr e) h = let m = of_kind e h in (omega arith, omega arith)

@@ -71,10 +71,10 @@ impl<'a> Pages<'a> {
         }
         let x = digest::digest_four(self.kind, a, b, c, d);
         Some([
-            self.mark_of(n, x.a),
-            self.mark_of(n + 1, x.b),
-            self.mark_of(n + 2, x.c),
-            self.mark_of(n + 3, x.d),
+            self.mark_of(n, x[0]),
+            self.mark_of(n + 1, x[1]),
+            self.mark_of(n + 2, x[2]),
+            self.mark_of(n + 3, x[3]),
         ])
     }
 
