@@ -25,7 +25,8 @@ use refusals::{Answer, Refusal};
 use slots::SideFiles;
 use trustcache::Launch;
 
-// What a whole check answers: a refusal number with its place, or 0 with the cache entry that lists the directory's hash.
+// What a whole check answers: a refusal number with its place, or 0 with the cache entry that lists the directory's hash. A struct of its
+// own beside `Answer`, as in include/trewizlow.h.
 #[repr(C)]
 #[derive(Clone, Copy)]
 pub struct Verdict {

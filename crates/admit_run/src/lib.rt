@@ -105,7 +105,7 @@ fn admit<'a>(signature: &'a [u8], image: &[u8], cache: &'a [u8], marks: &mut [u8
     admission::check(image, &mut marks[0..n], lent)
 }
 
-// How many marks test 20 wants; 0 where a test before it refuses.
+// How many marks test 20 wants; 0 where a test before it refuses, as its definition has it.
 fn marks_wanted(signature: &[u8]) -> usize
     ensures { (result ≡ marks_wanted signature.now) × (result ≤ length signature.now) }
 {

@@ -220,7 +220,7 @@ fn code_bytes(d: &[u8]) -> usize
     slot_bytes(d, CodeDirectory::read(d).code_slots)
 }
 
-// The head size that the version asks for; 0 where the version is refused.
+// The head size that the version asks for; 0 where the version is refused, as row 11 asks of it.
 fn head_size(version: usize) -> usize
     ensures { (result ≡ head_size version) × (result < 109) }
 {
@@ -242,7 +242,7 @@ fn head_of(d: &[u8]) -> usize
     head_size(CodeDirectory::read(d).version)
 }
 
-// codeLimit64; 0 in a directory of a version that has none.
+// codeLimit64; 0 in a directory of a version that has none, as `since` and the code limit have it.
 fn limit64_of(d: &[u8]) -> u64
     ensures { result ≡ since limit64_version code_limit64 d.now }
 {
@@ -253,7 +253,7 @@ fn limit64_of(d: &[u8]) -> u64
     head.code_limit64
 }
 
-// scatterOffset; 0 in a directory of a version that has none.
+// scatterOffset; 0 in a directory of a version that has none, as `since` has it.
 fn scatter_of(d: &[u8]) -> usize
     ensures { result ≡ since scatter_version scatter_offset d.now }
 {
@@ -282,11 +282,7 @@ fn page_count(d: &[u8]) -> usize
 fn ident_room(d: &[u8]) -> usize
     ensures { result ≡ length d.now - ident_offset d.now }
 {
-    let start = CodeDirectory::read(d).ident_offset;
-    if d.len() < start {
-        return 0;
-    }
-    d.len() - start
+    d.len().saturating_sub(CodeDirectory::read(d).ident_offset)
 }
 
 // Bytes of the identifier before its zero byte; all the room where there is none.

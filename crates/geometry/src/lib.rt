@@ -1,7 +1,8 @@
 // The arithmetic of pages, and of the pages that a range meets, with tests 32 and 33 (document 01, "Pages").
 //
 // A page is P bytes of the image, the last one short where the code limit ends it. No sum wraps: a range is tested against the code
-// limit by differences.
+// limit by differences. Functions of plain numbers, as their definitions are, 0 included: `marks::Pages` and `admission`'s calls hold what
+// travels together.
 #![tactic(auto)]
 
 ghost use Rattle.std.specs.Prelude.{◌≡◌, ◌+◌, ◌*◌, ◌<◌, ◌≤◌, ◌^◌};

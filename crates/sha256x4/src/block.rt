@@ -121,6 +121,7 @@ fn run_rounds(h: [u32; 32], m: [u32; 64]) -> [u32; 32]
     let w = x.w;
     let mut s = x.s;
     for t in 48..64 {
+        // Into a name of its own, as above.
         let n = round_step(s, k[t], words_at(&w, t - 48));
         s = n;
     }

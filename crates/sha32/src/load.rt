@@ -25,7 +25,8 @@ pub fn word_at(b: &[u8], j: usize) -> u32
     swap(wide(b[j]) + wide(b[j + 1]) * 256 + wide(b[j + 2]) * 65536 + wide(b[j + 3]) * 16777216)
 }
 
-// The sixteen words of the block at byte `at`.
+// The sixteen words of the block at byte `at`, written out: a loop over the places would fill an array in memory. `sha64` has words of
+// another type.
 pub fn load_block(b: &[u8], at: usize) -> [u32; 16]
     requires { at + 64 ≤ length b.now }
     ensures { result ≡ words 4 16 b.now at }

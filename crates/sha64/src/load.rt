@@ -20,7 +20,7 @@ fn word_at(b: &[u8], j: usize) -> u64
     ])
 }
 
-// The sixteen words of the block at byte `at`.
+// The sixteen words of the block at byte `at`, written out as in `sha32`, whose words have another type.
 pub fn load_block(b: &[u8], at: usize) -> [u64; 16]
     requires { at + 128 ≤ length b.now }
     ensures { result ≡ words 8 16 b.now at }

@@ -1,5 +1,6 @@
 // What include/trewizlow.h declares, and trewizlow_file_read and trewizlow_file_check, for C (trewizlow_c exports them) and for other crates:
-// thin functions over the crates that do the work. Each takes any bytes and any numbers.
+// thin functions over the crates that do the work. Each takes any bytes and any numbers. Flags beside side files, numbers of refusals, and
+// what is 0 where nothing is found are the header's.
 #![tactic(auto)]
 
 ghost use Rattle.std.specs.Prelude.{◌≡◌};
