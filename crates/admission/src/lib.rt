@@ -55,7 +55,7 @@ pub struct Beside<'a> {
     pub launch: Launch,
 }
 
-// The whole check: tests 1 to 31. A refusal but 31 leaves every mark.
+// The whole check: tests 1 to 31. A refusal but 31 leaves every mark. It answers as C reads it, since `Checked` speaks of that.
 pub fn check(image: &[u8], marks: &mut [u8], lent: Beside<'_>) -> Verdict
     ensures { Checked (lent_of lent.entry image.now) marks.old result marks.new }
 {
@@ -100,7 +100,7 @@ fn check_walked(
 }
 
 // Where the image of a whole check comes from: lent apart from its signature, or cut from a file before the signature, which the load
-// command at this position names.
+// command at this position names. An enum and no closure, since `origin_rows` and `PartsChecked` speak of it.
 #[derive(Clone, Copy)]
 enum Origin {
     Apart,

@@ -40,7 +40,7 @@ enum Operation {
     // The whole check.
     Check,
     Recheck,
-    // Document 01's small program, whose three fields are names of files.
+    // The small program, whose three fields are names of files.
     Small,
     // Where a Mach-O file has its signature.
     FileRead,

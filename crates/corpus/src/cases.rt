@@ -78,15 +78,18 @@ impl<'a> Arena<'a> {
 
     // Takes the field at the start of a file. One whose item is broken has no bytes.
     fn take_field<'f>(&mut self, file: &'f [u8]) -> Option<Field<'f>>
-        ensures { IfSome result (λ field. length field.rest.now < length file.now) }
+        ensures rest { IfSome result (λ field. length field.rest.now < length file.now) }
+        ensures kept { length self.new.bytes.now ≡ length self.old.bytes.now }
     {
         let (head, rest) = file.split_first_chunk::<5>()?;
         let [number, a, b, c, d] = *head;
         let number = number as usize;
         let start = u32::from_be_bytes([a, b, c, d]) as usize;
-        let place = self.places.get_mut(number)?;
-        let item = expand(rest, self.bytes.get_mut(start..)?);
-        *place = Place {
+        if FIELDS <= number || self.bytes.len() < start {
+            return None;
+        }
+        let item = expand(rest, &mut self.bytes[start..]);
+        self.places[number] = Place {
             start,
             length: item.map_or(0, |item| item.length),
         };
@@ -98,7 +101,8 @@ impl<'a> Arena<'a> {
 
     // Takes `count` fields from the start of a file on.
     fn take_fields<'f>(&mut self, file: &'f [u8], count: u8, asked: usize) -> Option<Taken<'f>>
-        ensures { IfSome result (λ taken. length taken.rest.now ≤ length file.now) }
+        ensures rest { IfSome result (λ taken. length taken.rest.now ≤ length file.now) }
+        ensures kept { length self.new.bytes.now ≡ length self.old.bytes.now }
     {
         let mut named = false;
         let mut rest = file;
@@ -112,7 +116,8 @@ impl<'a> Arena<'a> {
 
     // Takes the case at the start of a file, and says whether it names the field `asked`; nothing where it is not as described above.
     pub fn take_case<'f>(&mut self, file: &'f [u8], asked: usize) -> Option<Case<'f>>
-        ensures { IfSome result (λ case. (length case.name.now ≤ length file.now) × (length case.rest.now < length file.now)) }
+        ensures case { IfSome result (λ case. (length case.name.now ≤ length file.now) × (length case.rest.now < length file.now)) }
+        ensures kept { length self.new.bytes.now ≡ length self.old.bytes.now }
     {
         let (size, rest) = file.split_first()?;
         let (name, rest) = rest.split_at_checked(*size as usize)?;

@@ -56,7 +56,7 @@ pub fn code_limit(d: &[u8]) -> usize
     limit64 as usize
 }
 
-// Special slot k, counted from 1, which ends where slot k - 1 starts; slot 1 ends at hashOffset. Nothing where the directory has no such slot.
+// Special slot k, counted from 1, which ends where slot k - 1 starts; slot 1 ends at hashOffset. Empty where the directory has no such slot, as its definition has it.
 pub fn special_slot<'a>(d: &'a [u8], k: usize) -> &'a [u8]
     ensures { result.now ≡ special_slot d.now k }
 {
@@ -253,7 +253,7 @@ fn limit64_of(d: &[u8]) -> u64
     head.code_limit64
 }
 
-// scatterOffset; 0 in a directory of a version that has none, as `since` has it.
+// scatterOffset likewise, a field of another width.
 fn scatter_of(d: &[u8]) -> usize
     ensures { result ≡ since scatter_version scatter_offset d.now }
 {

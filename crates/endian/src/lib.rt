@@ -60,7 +60,7 @@ fn big_endian(s: &[u8], start: usize, field: usize, width: usize) -> u64
     n
 }
 
-// The number that `width` bytes make, the first the least significant.
+// The number that `width` bytes make, the first the least significant: `little`, as the one above is `big`.
 fn little_endian(s: &[u8], start: usize, field: usize, width: usize) -> u64
     requires { width ≤ 8 }
     ensures { (result ≡ little width s.now (start + field)) × (result < 256 ^ width) }

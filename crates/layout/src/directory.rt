@@ -65,7 +65,7 @@ impl CodeDirectory {
     // Bytes that hold the version.
     pub const VERSION_END: usize = 12;
 
-    // Bytes of a slot, by the hash kind; 0 for a kind that is not known.
+    // Bytes of a slot, by the number of the hash kind; 0 for one that is not known, as `width_of` has it.
     pub fn slot_width(kind: usize) -> usize
         ensures { (result ≡ width_of kind) × (result ≤ 48) }
     {

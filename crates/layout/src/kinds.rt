@@ -14,7 +14,7 @@ pub enum HashKind {
 }
 
 impl HashKind {
-    // The kind of a number, where it is known.
+    // The kind of a number, where it is known. No TryFrom: a number that names no kind is no error here.
     pub fn of(number: usize) -> Option<HashKind>
         ensures known { IfSome result (λ kind. kind_number kind ≡ number) }
         ensures unknown { IsNone result → width_of number ≡ 0 }

@@ -16,7 +16,7 @@ AnswersAs post file f = (c : Command) (b : Bool) → c.file.now ≡ file → pos
 abbrev pub First : (Command → Bool → Type 0) → List ℕ → Option Command → Type 0
 First post file r =
     (f : ℕ → Cond) → AnswersAs post file f
-    → MatchOption r (lowest f (ncmds file) ≡ ncmds file) (λ c. (c.index < ncmds file) × (c.index ≡ lowest f (ncmds file)) × (c.at ≡ command_at file c.index))
+    → MatchOption r (lowest f (ncmds file) ≡ ncmds file) (λ c. (c.index < ncmds file) × (c.index ≡ lowest f (ncmds file)) × (c.at ≡ command_at file c.index) × (c.file.now ≡ file))
 
 -- the part that the first LC_CODE_SIGNATURE names
 pub record NamedPart (f : List ℕ) (r : Span) : Type 0 where

@@ -1,4 +1,4 @@
--- The same of pages as the code lends them: `marks_from`, `PageHere` and `PagesHere` of the fields.
+-- Pages as the code lends them: `marks_from`, `PageHere` and `PagesHere` of the fields.
 use Rattle.std.specs.Prelude.{ℕ, List}
 use Rattle.marks.specs.declared.Pages.{Pages}
 use Rattle.marks.specs.Marks.{Slots, slots_of_kind, mark_in, marks_from, PageHere, PagesHere}

@@ -17,7 +17,7 @@ use layout::directory::CodeDirectory;
 use refusals::Refusal;
 
 // Pages of p bytes up to the code limit, the code slots of all pages, by their hash kind, and bytes that begin where page `from` begins:
-// the image itself for all pages, or what is lent for the pages that a range meets.
+// the image itself for all pages, or what is lent for the pages that a range meets. The kind is a number, known or not, as `Slots` has it.
 #[derive(Clone, Copy)]
 pub struct Pages<'a> {
     pub p: usize,
@@ -118,7 +118,7 @@ pub fn marks_tested(marks: &[u8]) -> Result<(), Refusal>
     ensures { test_answer result ≡ first (mark_rows marks.now) accepted }
 {
     match marks.iter().position(|mark| 1 < *mark) {
-        Some(page) => Err(Refusal::MarkNeither(page)),
+        Some(page) => Err(Refusal::BadMark(page)),
         None => Ok(()),
     }
 }

@@ -11,6 +11,7 @@ fn answer(number: u32, place: usize) -> Answer
     Answer { number, place }
 }
 
+// One table, an arm a refusal.
 impl From<Refusal> for Answer {
     ghost from_gives = { λ refusal answer. answer ≡ answer_of refusal };
 
@@ -36,7 +37,7 @@ impl From<Refusal> for Answer {
             Refusal::Identifier => answer(18, 0),
             Refusal::ImageLength => answer(19, 0),
             Refusal::MarksLength => answer(20, 0),
-            Refusal::NoThing(slot) => answer(21, slot),
+            Refusal::ThingMissing(slot) => answer(21, slot),
             Refusal::OtherHash(slot) => answer(22, slot),
             Refusal::EmptySlot(slot) => answer(23, slot),
             Refusal::CacheForm => answer(24, 0),
@@ -49,7 +50,7 @@ impl From<Refusal> for Answer {
             Refusal::PageDiffers(page) => answer(31, page),
             Refusal::RangeOutside => answer(32, 0),
             Refusal::ContentsLength => answer(33, 0),
-            Refusal::MarkNeither(page) => answer(34, page),
+            Refusal::BadMark(page) => answer(34, page),
             Refusal::Scatter => answer(35, 0),
             Refusal::MachHeader => answer(36, 0),
             Refusal::LoadCommand(position) => answer(37, position),

@@ -1,4 +1,5 @@
-// The refusals by name, in the order of their numbers, with what the place names where one is named.
+// The refusals by name, in the order of their numbers. A variant with a number names a place: the position of an entry of the SuperBlob's
+// index, a special slot, an entry of the trust cache, a constraint category, a page, or the position of a load command.
 
 #[derive(Clone, Copy, Debug, PartialEq, Eq)]
 pub enum Refusal {
@@ -7,7 +8,6 @@ pub enum Refusal {
     SuperBlobMagic,
     BlobCount,
     SuperBlobLength,
-    // The position of an entry of the SuperBlob's index.
     UnknownType(usize),
     RepeatedType(usize),
     BlobOutside(usize),
@@ -24,27 +24,23 @@ pub enum Refusal {
     Identifier,
     ImageLength,
     MarksLength,
-    // The special slot: it is filled and its thing is not there, it holds another hash, or it is empty and its thing is there.
-    NoThing(usize),
+    // A special slot is filled and its thing is not there, it holds another hash, or it is empty and its thing is there.
+    ThingMissing(usize),
     OtherHash(usize),
     EmptySlot(usize),
     CacheForm,
-    // The entry of the trust cache.
     CacheOrder(usize),
     NotListed,
     OtherKind(usize),
-    // The constraint category.
     UnknownCategory(usize),
     SelfConstraint,
     ParentConstraint,
-    // The page.
     PageDiffers(usize),
     RangeOutside,
     ContentsLength,
-    MarkNeither(usize),
+    BadMark(usize),
     Scatter,
     MachHeader,
-    // The position of a load command.
     LoadCommand(usize),
     NoSignature,
     SignatureCommand(usize),

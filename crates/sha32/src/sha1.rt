@@ -79,7 +79,8 @@ fn renew_word(m: [u32; 16], i: usize) -> [u32; 16]
     w
 }
 
-// The working words, and the sixteen words of the schedule that are kept.
+// The working words, and the sixteen words of the schedule that are kept. As in `sha256`, with five words for eight, rounds that go by their
+// number, and the new word behind the round: no line is the same.
 #[derive(Clone, Copy)]
 struct State {
     s: [u32; 5],

@@ -139,7 +139,7 @@ fn renew_word(m: [u64; 16], i: usize) -> [u64; 16]
     w
 }
 
-// The closing sum.
+// The closing sum, of words of another type than `sha32::add_words` has.
 fn add_words(h: [u64; 8], s: [u64; 8]) -> [u64; 8]
     ensures { result ≡ sums 64 8 h s }
 {

@@ -8,7 +8,7 @@ ghost use Rattle.sha.specs.Words.{plus, rotr, ch, maj, big_sigma, small_sigma};
 pub fn add(a: u64, b: u64) -> u64
     ensures { result ≡ plus 64 a b }
 {
-    std::num::wrapping_add_u64(a, b)
+    a.wrapping_add(b)
 }
 
 pub fn rotate(x: u64, n: u64) -> u64

@@ -63,7 +63,7 @@ fn thing_tested(kind: usize, slot: &[u8], thing: Option<&[u8]>, k: usize) -> Res
         (Some(thing), false) if digest::agrees(kind, thing, slot) => Ok(()),
         (Some(_), false) => Err(Refusal::OtherHash(k)),
         (None, true) => Ok(()),
-        (None, false) => Err(Refusal::NoThing(k)),
+        (None, false) => Err(Refusal::ThingMissing(k)),
     }
 }
 

@@ -45,7 +45,7 @@ pub fn find_span(sig: &[u8], slot_type: u32) -> Option<Range<usize>>
     Some(start..start + length_at(sig, i))
 }
 
-// The blob of a type, its head included; empty where tests 1 to 9 do not pass or the index has no such type.
+// The blob of a type, its head included; empty, as `blob` has it, where tests 1 to 9 do not pass or the index has no such type.
 pub fn find<'a>(sig: &'a [u8], slot_type: u32) -> &'a [u8]
     ensures { result.now ≡ blob sig.now slot_type }
 {

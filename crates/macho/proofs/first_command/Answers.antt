@@ -11,7 +11,7 @@ loop-index-init g c = (starts_behind _ _ refl, omega arith, λ f h. lowest_none 
 
 pub returns-then-test : goal.returns-then-test
 returns-then-test g c =
-    λ f h. (omega arith, lowest_stop f _ _ (omega arith) (c.loop-index.invariant.2 f h) (h _ true refl c.if-test.ensures), c.loop-index.invariant.0)
+    λ f h. (omega arith, lowest_stop f _ _ (omega arith) (c.loop-index.invariant.2 f h) (h _ true refl c.if-test.ensures), c.loop-index.invariant.0, refl)
 
 pub loop-index-preserved : goal.loop-index-preserved
 loop-index-preserved g c = (
