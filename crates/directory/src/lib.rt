@@ -4,7 +4,8 @@
 // The directory is the blob of type 0. It is refused where its version has no head size, where its head, a slot or the
 // identifier does not lie inside it, where its hash kind or its page size is not known, a flag not allowed, its code limit too
 // large or its pages scattered, and where its slots are not those that its code limit asks for. The table of tests is specs/Rows.antt,
-// the head by its version specs/Head.antt, its code limit and its pages specs/Pages.antt.
+// the head by its version specs/Head.antt, its code limit and its pages specs/Pages.antt. Functions take the directory's bytes, as their
+// definitions do.
 #![tactic(auto)]
 
 ghost use Rattle.std.specs.Prelude.{◌≡◌, ◌-◌, ◌*◌, ◌<◌, ◌≤◌, length};

@@ -33,7 +33,7 @@ fn words_at(w: &[u32; 64], i: usize) -> [u32; 4]
     [w[4 * i + 0], w[4 * i + 1], w[4 * i + 2], w[4 * i + 3]]
 }
 
-// One round of each message, with the constant k and the schedules' words w.
+// One round of each message, with the constant k and the schedules' words w. Written out, so that the compiler finds four words in a row.
 fn round_step(s: [u32; 32], k: u32, w: [u32; 4]) -> [u32; 32]
     ensures { Four (λ j. lane 8 j result ≡ round core256 (lane 8 j s) k (get_or w j 0)) }
 {

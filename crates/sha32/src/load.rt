@@ -3,6 +3,7 @@ ghost use Rattle.std.specs.Prelude.{◌≡◌, ◌+◌, ◌*◌, ◌/◌, ◌%�
 ghost use Rattle.endian.specs.Numbers.{big};
 ghost use Rattle.sha.specs.Message.{words};
 
+// A byte as a word, under a clause that has its bound.
 fn wide(x: u8) -> u32
     ensures { (result ≡ x) × (result < 256) }
 {

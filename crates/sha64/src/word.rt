@@ -11,6 +11,7 @@ pub fn add(a: u64, b: u64) -> u64
     a.wrapping_add(b)
 }
 
+// ROTR as the standard writes it, section 3.2; the compiler makes one instruction of it.
 pub fn rotate(x: u64, n: u64) -> u64
     requires { (0 < n) × (n < 64) }
     ensures { result ≡ rotr 64 n x }

@@ -120,6 +120,8 @@ fn index_tested(sig: &[u8]) -> Result<(), Refusal>
     Ok(())
 }
 
+// What is asked of a position takes the signature and the position, as its definition does.
+
 // The type at i stands at an earlier position too.
 fn repeats_type(sig: &[u8], i: usize) -> bool
     ensures { result ≡ holds (repeated sig.now i) }
