@@ -63,7 +63,7 @@ pub fn check(image: &[u8], marks: &mut [u8], lent: Beside<'_>) -> Verdict
 }
 
 // The whole check of a Mach-O file: tests 36 to 40, 1 to 18, 41 and 20 to 31. The image is the file before the signature. A refusal but
-// 31 leaves every mark.
+// 31 leaves every mark. What else is lent becomes a `Beside` once the signature is found.
 pub fn check_file(
     file: &[u8],
     marks: &mut [u8],
@@ -122,7 +122,8 @@ fn check_parts(
     marks::judge(marks, entry)
 }
 
-// Tests 1 to 30, by the lengths of the image and of the marks; where they pass, the directory's entry.
+// Tests 1 to 30, by the lengths of the image and of the marks, two numbers as in `check_tested` of specs/Check.antt; where they pass, the
+// directory's entry.
 pub fn check_tested(
     lent: Beside<'_>,
     image_length: usize,

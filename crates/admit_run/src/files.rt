@@ -15,7 +15,7 @@ pub fn load(files: &impl Files, name: &[u8], out: &mut [u8]) -> Option<usize>
     read_all(&mut file, out).ok()
 }
 
-// Reads until the buffer is full or the file ends. A read that fails, as of a directory, means that the file is not there: its bytes are not.
+// Reads until the buffer is full or the file ends: the buffer is lent, since nothing is allocated, and `SaidIn` speaks of it and of a count. A read that fails, as of a directory, means that the file is not there: its bytes are not.
 fn read_all(file: &mut impl Read, out: &mut [u8]) -> io::Result<usize>
     ensures { IfOk result (λ n. n ≤ length out.new) }
 {

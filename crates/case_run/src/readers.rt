@@ -85,7 +85,7 @@ fn print_finds(rt: &impl Print, sig: &[u8], types: &[u8]) -> io::Result<()> {
     Ok(())
 }
 
-// ` TYPE:START+LENGTH`, where one of the two is not 0; before it the answer, where it is not that of the first lookup.
+// ` TYPE:START+LENGTH`, where one of the two is not 0 (0, and two answers field by field, as in the C interface); before it the answer, where it is not that of the first lookup.
 fn print_find(rt: &impl Print, sig: &[u8], slot_type: u32, first: BlobPart) -> io::Result<()> {
     let found = trewizlow::trewizlow_find(sig, slot_type);
     if found.number != first.number || found.place != first.place {

@@ -27,7 +27,7 @@ pub fn load(files: &impl Files, name: &[u8], out: &mut [u8]) -> Option<usize>
     Some(read_full(&mut file, out))
 }
 
-// Reads until the buffer is full, the file ends or a read fails: of a file that cannot be read to its end the small program, whose reading
+// Reads into a lent buffer, since nothing is allocated, until it is full, the file ends or a read fails: of a file that cannot be read to its end the small program, whose reading
 // is `admit_run`'s, says that it is not there.
 fn read_full(file: &mut impl Read, out: &mut [u8]) -> usize
     ensures { IsPrefixLen result out.new }

@@ -40,7 +40,8 @@ fn slot_tested(sig: &[u8], d: &[u8], sides: SideFiles<'_>, k: u32) -> Result<(),
     thing_tested(kind, slot, thing_of(sig, sides, k), k as usize)
 }
 
-// The thing that slot k covers, where it is there.
+// The thing that slot k covers, where it is there: of 1 the Info.plist, of 3 the CodeResources, of 4 and 6 nothing. Slots go by their
+// numbers, which are those of blobs' types.
 fn thing_of<'a>(sig: &'a [u8], sides: SideFiles<'a>, k: u32) -> Option<&'a [u8]>
     requires { 0 < k }
     ensures flag { is_there result ≡ there sig.now (sides_of sides.entry) k }
@@ -54,7 +55,7 @@ fn thing_of<'a>(sig: &'a [u8], sides: SideFiles<'a>, k: u32) -> Option<&'a [u8]>
     }
 }
 
-// Slot k, by the directory's hash kind, the slot's bytes, and the thing, where it is there.
+// Slot k, by the number of the directory's hash kind, which `digest_of` takes, the slot's bytes, and the thing, where it is there.
 fn thing_tested(kind: usize, slot: &[u8], thing: Option<&[u8]>, k: usize) -> Result<(), Refusal>
     ensures { test_answer result ≡ slot_answer (fault_of (all_zero slot.now) (is_there thing.entry) (same (digest_of kind (bytes_of thing.entry)) slot.now)) k }
 {

@@ -20,7 +20,8 @@ use layout::cache::CacheEntry;
 use refusals::Refusal;
 use search::lookup_tested;
 
-// Tests 24 to 30, of the directory whose hash, by its kind, begins with these 20 bytes, and its entry.
+// Tests 24 to 30, of the directory whose hash, by its kind, begins with these 20 bytes, and its entry. The kind is a number, as entries hold
+// it: any may be compared.
 pub fn tested(c: &[u8], kind: usize, hash: [u8; 20], facts: Launch) -> Result<usize, Refusal>
     ensures { place_answer result ≡ cache_answer c.now kind hash facts }
 {
