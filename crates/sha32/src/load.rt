@@ -1,29 +1,14 @@
 // The words of a block, FIPS 180-4, section 5.2.1.
-ghost use Rattle.std.specs.Prelude.{◌≡◌, ◌+◌, ◌*◌, ◌/◌, ◌%◌, ◌<◌, ◌≤◌, length};
+ghost use Rattle.std.specs.Prelude.{◌≡◌, ◌+◌, ◌≤◌, length};
 ghost use Rattle.endian.specs.Numbers.{big};
 ghost use Rattle.sha.specs.Message.{words};
 
-// A byte as a word, under a clause that has its bound.
-fn wide(x: u8) -> u32
-    ensures { (result ≡ x) × (result < 256) }
-{
-    x as u32
-}
-
-// The word with its bytes in the other order.
-fn swap(x: u32) -> u32
-    ensures { result ≡ x % 256 * 16777216 + x / 256 % 256 * 65536 + x / 65536 % 256 * 256 + x / 16777216 }
-{
-    x % 256 * 16777216 + x / 256 % 256 * 65536 + x / 65536 % 256 * 256 + x / 16777216
-}
-
-// The big-endian word at byte j. Swapped from the little-endian one it is two instructions, few enough for `load_block` to be compiled
-// into each of the two block steps.
+// The big-endian word at byte j.
 pub fn word_at(b: &[u8], j: usize) -> u32
     requires { j + 4 ≤ length b.now }
     ensures { result ≡ big 4 b.now j }
 {
-    swap(wide(b[j]) + wide(b[j + 1]) * 256 + wide(b[j + 2]) * 65536 + wide(b[j + 3]) * 16777216)
+    u32::from_be_bytes([b[j], b[j + 1], b[j + 2], b[j + 3]])
 }
 
 // The sixteen words of the block at byte `at`, written out: a loop over the places would fill an array in memory. `sha64` has words of
