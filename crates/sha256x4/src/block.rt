@@ -25,7 +25,7 @@ fn new_word(w: &[u32; 64], t: usize, j: usize) -> u32
     )
 }
 
-// The words at place i of the four messages.
+// The words at place i of the four messages. A type for a place below 16 would be longer than the clause.
 fn words_at(w: &[u32; 64], i: usize) -> [u32; 4]
     requires { i < 16 }
     ensures { Four (λ j. get_or result j 0 ≡ get_or w.now (4 * i + j) 0) }

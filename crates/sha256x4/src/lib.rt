@@ -1,7 +1,8 @@
 // SHA-256 of four messages of one length, side by side (FIPS 180-4, section 6.2).
 //
 // Four messages at once take about twice the time of one: `word` and `block` are written so that the compiler puts the words of the four
-// into vector registers, which every x86-64 has. The last bytes of each message, with the padding, go through `sha32`.
+// into vector registers, which every x86-64 has. The last bytes of each message, with the padding, go through `sha32`. The messages have four
+// names, and no array, since the clauses speak of each.
 #![tactic(auto)]
 
 mod block;
