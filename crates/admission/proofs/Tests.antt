@@ -1,5 +1,5 @@
 -- The tests of each call, one group after another: the first that refuses stands, and where each passes the next decides. Assumes nothing.
-use Prim.Native.Nat.{ℕ, ◌≤◌, max}
+use Prim.Native.Nat.{ℕ, ◌<◌, ◌≤◌, max}
 use mathlib.Core.Bool.{Bool, true, false, cond}
 use lib.Dec.{ltb}
 use borrow.Author.Tests.{ltb-true, ltb-false}
@@ -34,6 +34,15 @@ use Rattle.admission.specs.Parts.{origin_rows, later_tested, parts_rows, parts_t
 use Rattle.admission.specs.Recheck.{recheck_of, input_rows, call_rows}
 
 -- THE LONGEST SIDE FILE
+
+module _ (x : Sides) (a b : ℕ) (e : a ≡ cond x.info_there (length x.info) 0) (f : b ≡ cond x.resources_there (length x.resources) 0) where
+  pub longest_resources : a < b → b ≡ longest x
+  unfolding longest
+  longest_resources h = pick_yes _ _ _ b (rw (← e, ← f) h) f
+
+  pub longest_info : b ≤ a → a ≡ longest x
+  unfolding longest
+  longest_info h = pick_no _ _ _ a (rw (← e, ← f) h) e
 
 pub longest_is : (x : Sides) (a b : ℕ) → a ≡ cond x.info_there (length x.info) 0 → b ≡ cond x.resources_there (length x.resources) 0 → max a b ≡ longest x
 unfolding longest

@@ -12,8 +12,8 @@ use Rattle.directory.specs.Rows.{most_special_slots, special_slot}
 use Rattle.slots.specs.Slots.{sides, is_empty, nothing, there, thing, fault, special_rows}
 use Rattle.slots.specs.Lent.{sides_read}
 use Rattle.trustcache.specs.declared.launch.Launch.{Launch}
-use Rattle.admission.specs.Input.{longest, lent}
-use Rattle.admission.specs.Check.{check_rows, check_table, check_answer, check_marks, later_rows, entry_for, check_of}
+use Rattle.admission.specs.Input.{longest, besides, lent}
+use Rattle.admission.specs.Check.{check_rows, check_tested, check_table, check_answer, check_marks, later_rows, entry_for, check_of}
 use Rattle.admission.specs.File.{lent_file, file_rows, file_table, file_answer, file_marks, file_of}
 use Rattle.admission.proofs.Ignored.{fault_of_same}
 
@@ -51,9 +51,15 @@ module _ (a : Bool) (l : List ℕ) (b : Bool) (m : List ℕ) where
         (fault_of_same (hash_type d) (is_empty d k) (there s (sides a l b m) k) (there s (sides_read a l b m) k) (thing s (sides a l b m) k) (thing s (sides_read a l b m) k) (special_slot d k)
         refl (thing_read k))
 
-    special_read : special_rows s d (sides a l b m) ≡ special_rows s d (sides_read a l b m)
+    pub special_read : special_rows s d (sides a l b m) ≡ special_rows s d (sides_read a l b m)
     unfolding special_rows
     special_read = among_same (most_special_slots + 1) (fault s d (sides a l b m)) (fault s d (sides_read a l b m)) (21 ∷ 22 ∷ 23 ∷ []) fault_read
+
+  pub tested_unread : (signature cache : List ℕ) (facts : Launch) (image_length marks_length : ℕ)
+      → check_tested (record { signature = signature; cache = cache; sides = sides_read a l b m; facts = facts }) image_length marks_length
+      ≡ check_tested (besides signature cache a l b m facts) image_length marks_length
+  unfolding check_rows later_rows entry_for
+  tested_unread signature cache facts image_length marks_length = rw (← longest_read, ← special_read signature _) refl
 
   pub check_unread : (signature image cache : List ℕ) (facts : Launch) (marks : List ℕ)
       → check_of (record { signature = signature; image = image; cache = cache; sides = sides_read a l b m; facts = facts }) marks

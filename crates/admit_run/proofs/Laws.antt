@@ -1,10 +1,12 @@
 -- The number of marks that are lent, the verdict of a check that is lent so many, and what is said of a file. Assumes nothing.
-use Prim.Native.Nat.{ℕ, ◌-◌, ◌≤◌}
+use Prim.Native.Nat.{ℕ, ◌-◌, ◌<◌, ◌≤◌}
+use mathlib.Core.Bool.{Bool, true, false, not, true≢false, false≢true}
 use mathlib.Core.List.{List}
 use mathlib.Core.Path.{◌≡◌, refl, sym, ap, ◌∙◌}
 use native.Mathlib.Omega.{arith}
 use lib.ListN.{length, take, drop, length-take, length-drop}
 use lib.Seq.{length-take-le}
+use borrow.Author.Tests.{lt-ltb, le-ltb}
 use Rattle.refusals.specs.declared.Answer.{Answer}
 use Rattle.refusals.specs.Refusals.{accepted, first}
 use Rattle.refusals.proofs.Conditions.{pick_yes, pick_no}
@@ -20,7 +22,7 @@ use Rattle.admission.specs.Check.{CheckOutcome, check_of, check_answer, verdict_
 use Rattle.std.specs.Prelude.{Err}
 use Rattle.admit_run.specs.declared.FileError.{FileError}
 use Rattle.admit_run.specs.declared.FileError.TheVariants.{NoFile, TooLong}
-use Rattle.admit_run.specs.Small.{marks_wanted, files, small_verdict, File, has, outcome, Line, judged}
+use Rattle.admit_run.specs.Small.{marks_wanted, files, small_verdict, File, has, file_of, outcome, Line, judged}
 
 -- the directory is a part of the signature
 directory_length : (s : List ℕ) → length (directory s) ≤ length s
@@ -48,6 +50,23 @@ verdict_is s image cache marks n v after e h c =
     let z : n - 0 ≡ marks_wanted s = omega arith in
     ap (λ (o : CheckOutcome). o.verdict) c
     ∙ ap (λ (m : ℕ). verdict_of (check_answer (files s image cache) m)) (length-take-le (n - 0) marks (omega arith) ∙ z)
+
+-- what is said of a file, by what its reading told: it was not there, it is over its size, or neither
+module _ (most : ℕ) (bytes : List ℕ) (rest : List ℕ → Line) where
+  pub judged_missing : (there : Bool) → not there ≡ true → Err NoFile ≡ judged (file_of most there bytes) rest
+  unfolding judged file_of
+  judged_missing false e = refl
+  judged_missing true e = absurd (false≢true e)
+
+  pub judged_long : (there : Bool) → not there ≡ false → most < length bytes → Err TooLong ≡ judged (file_of most there bytes) rest
+  unfolding judged file_of
+  judged_long true e h = rw (lt-ltb most (length bytes) h) refl
+  judged_long false e h = absurd (true≢false e)
+
+  pub judged_within : (there : Bool) → not there ≡ false → length bytes ≤ most → rest bytes ≡ judged (file_of most there bytes) rest
+  unfolding judged file_of
+  judged_within true e h = rw (le-ltb most (length bytes) h) refl
+  judged_within false e h = absurd (true≢false e)
 
 -- what is said of a file that is refused, and of one whose bytes are taken
 module _ (file : File) (rest : List ℕ → Line) where

@@ -73,10 +73,10 @@ fn line_of(
     requires { most_signature_file ≤ length marks.old }
     ensures { result ≡ small_line (judged_file most_signature_file (option_copied signature.entry)) (judged_file most_image_file (option_copied image.entry)) (judged_file most_cache_file (option_copied cache.entry)) }
 {
-    let signature = within(signature, SIGNATURE_MOST)?;
-    let image = within(image, IMAGE_MOST)?;
-    let cache = within(cache, CACHE_MOST)?;
-    Ok(admit(signature, image, cache, marks))
+    let signature_bytes = within(signature, SIGNATURE_MOST)?;
+    let image_bytes = within(image, IMAGE_MOST)?;
+    let cache_bytes = within(cache, CACHE_MOST)?;
+    Ok(admit(signature_bytes, image_bytes, cache_bytes, marks))
 }
 
 // The whole check of three files.

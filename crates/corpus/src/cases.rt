@@ -6,7 +6,8 @@ ghost use Rattle.std.specs.Prelude.{◌≡◌, ◌<◌, ◌≤◌, length, repli
 
 use crate::items::expand;
 
-const FIELDS: usize = 16;
+// How many fields there are.
+pub const FIELDS: usize = 16;
 
 // A case, with its fields in the arena: its name, its operation, whether it names the field that was asked about, and the file behind it.
 #[derive(Clone, Copy)]
@@ -19,9 +20,9 @@ pub struct Case<'a> {
 
 // The part of the arena that a field fills.
 #[derive(Clone, Copy)]
-struct Place {
-    start: usize,
-    length: usize,
+pub struct Place {
+    pub start: usize,
+    pub length: usize,
 }
 
 // A field that was taken: its number, and the file behind it.
@@ -38,11 +39,11 @@ struct Taken<'a> {
     rest: &'a [u8],
 }
 
-// The arena, and where each field lies in it.
+// The arena, and where each field lies in it. Any places may be given: a field that does not lie inside has no bytes.
 #[derive(Drop)]
 pub struct Arena<'a> {
-    bytes: &'a mut [u8],
-    places: [Place; FIELDS],
+    pub bytes: &'a mut [u8],
+    pub places: [Place; FIELDS],
 }
 
 impl<'a> Arena<'a> {

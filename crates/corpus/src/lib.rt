@@ -11,7 +11,7 @@ mod printing;
 ghost use Rattle.std.specs.Prelude.{IfSome};
 ghost use Rattle.io.specs.Counts.{IsPrefixLen};
 
-pub use cases::{Arena, Case};
+pub use cases::{Arena, Case, FIELDS, Place};
 pub use printing::{print_answer, print_bytes};
 use std::fs;
 use std::io::Read;

@@ -66,13 +66,17 @@ module _ (k : ℕ) (m : List ℕ) where
   of_cut f ef le = sym (digest_cut f (width_of k) le m) ∙ rw (← ef)
 
 -- words of 4 bytes have at most 32
-narrow_width : (k : ℕ) → (k ≡ sha384_type → ⊥) → width_of k ≤ 32
+pub narrow_width : (k : ℕ) → (k ≡ sha384_type → ⊥) → width_of k ≤ 32
 narrow_width k h =
     rw (← width_is k)
     (by_number (λ f. f.width ≤ 32) k (λ e. omega arith) (λ e. omega arith) (λ e. omega arith) (λ e. absurd (h e)) (λ a b c d. omega arith))
 
--- the kinds that are cuts of SHA-256
-cut_sha256 : (k : ℕ) → 0 < width_of k → (k ≡ sha1_type → ⊥) → (k ≡ sha384_type → ⊥) → (hash_of k ≡ cut_to (width_of k) sha256) × (width_of k ≤ 32)
+-- the functions of words of 4 bytes, of which the kinds are cuts
+pub cut_sha1 : (k : ℕ) → k ≡ sha1_type → (hash_of k ≡ cut_to (width_of k) sha1) × (width_of k ≤ 20)
+unfolding hash_of width_of slot_widths lookup
+cut_sha1 k e = rw e (refl, omega arith)
+
+pub cut_sha256 : (k : ℕ) → 0 < width_of k → (k ≡ sha1_type → ⊥) → (k ≡ sha384_type → ⊥) → (hash_of k ≡ cut_to (width_of k) sha256) × (width_of k ≤ 32)
 cut_sha256 k h h₁ h₄ = (
   rw (← width_is k)
       (by_number (λ f. 0 < f.width → f ≡ cut_to f.width sha256) k

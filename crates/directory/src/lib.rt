@@ -136,8 +136,15 @@ fn fields_tested(d: &[u8]) -> Result<(), Refusal>
 fn hash_outside(d: &[u8]) -> bool
     ensures { result ≡ holds (hash_outside d.now) }
 {
+    let head = CodeDirectory::read(d);
     let width = slot_width(d);
-    width == 0 || CodeDirectory::read(d).hash_size != width
+    if width == 0 {
+        return true;
+    }
+    if head.hash_size != width {
+        return true;
+    }
+    false
 }
 
 // Tests 16 to 18: the slots and the identifier.

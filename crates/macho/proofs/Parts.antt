@@ -15,13 +15,13 @@ use Rattle.refusals.specs.Named.{answer_of}
 use Rattle.refusals.proofs.Conditions.{pick_yes, pick_no}
 use Rattle.refusals.proofs.Results.{refused, err_stops, ok_goes}
 use Rattle.std.specs.Prelude.{Result, Ok, Err}
-use Rattle.layout.specs.MachO.{most_dataoff, command_at, dataoff, datasize}
+use Rattle.layout.specs.MachO.{most_dataoff, ncmds, command_at, dataoff, datasize}
 use Rattle.macho.specs.declared.Span.{Span}
-use Rattle.macho.specs.Rows.{signature_command, data_end, command_rows, span_rows, walk_rows, passing, signature_position, signature_start, signature_end, signature_of, image_of, Spanned, nowhere, SignatureIn}
+use Rattle.macho.specs.Rows.{most_commands, signature_command, data_end, command_rows, span_rows, walk_rows, passing, signature_position, signature_start, signature_end, signature_of, image_of, Spanned, nowhere, SignatureIn}
 use Rattle.macho.specs.Commands.{SpanTested}
 use Rattle.macho.specs.Walked.{Walked, PartsPlainly}
 use Rattle.macho.proofs.Walked.{walked, which_first, walked_passes}
-use Rattle.macho.proofs.Table.{command_rows_unused, passes_number}
+use Rattle.macho.proofs.Table.{command_rows_unused, number_passes, passes_number}
 
 -- WHERE THE SIGNATURE LIES
 
@@ -52,13 +52,40 @@ module _ (f : List ℕ) (ne : (first (walk_rows f) accepted).number ≡ 0 → �
   end_refused = pick_no _ _ _ _ ne refl
 
 -- what the code hands back
-refused_nowhere : (f : List ℕ) (r : Refusal) → answer_of r ≡ first (walk_rows f) accepted → Spanned f nowhere
-refused_nowhere f r e =
-    let none : (first (walk_rows f) accepted).number ≡ 0 → ⊥ = λ z. refused r (ap (λ (a : Answer). a.number) e ∙ z) in
+abbrev span : ℕ → ℕ → ℕ → Span
+span command start end = record { command = command; start = start; end = end }
+
+pub span_refused : (f : List ℕ) (a : Answer) → a ≡ first (walk_rows f) accepted → (a.number ≡ 0 → ⊥) → Spanned f (span 0 0 0)
+span_refused f a q ne =
+    let none : (first (walk_rows f) accepted).number ≡ 0 → ⊥ = λ z. ne (ap (λ (x : Answer). x.number) q ∙ z) in
     record {
       command_is = position_refused f none;
       start_is = start_refused f none;
       end_is = end_refused f none;
+      ordered = omega arith;
+      within = omega arith;
+    }
+
+refused_nowhere : (f : List ℕ) (r : Refusal) → answer_of r ≡ first (walk_rows f) accepted → Spanned f nowhere
+refused_nowhere f r e = span_refused f (answer_of r) e (refused r)
+
+-- where they pass there are few commands
+pub few : (f : List ℕ) (a : Answer) → a ≡ first (walk_rows f) accepted → a.number ≡ 0 → ncmds f ≤ most_commands
+few f a q z = (walked f (number_passes f (sym (ap (λ (x : Answer). x.number) q) ∙ z))).few_commands
+
+pub span_walked : (f : List ℕ) (a : Answer) (i start size : ℕ) → a ≡ first (walk_rows f) accepted → a.number ≡ 0
+    → i ≡ signature_command f → start ≡ dataoff f i → size ≡ datasize f i → Spanned f (span i start (start + size))
+unfolding data_end
+span_walked f a i start size q z p o l =
+    let e : (first (walk_rows f) accepted).number ≡ 0 = sym (ap (λ (x : Answer). x.number) q) ∙ z in
+    let s : start ≡ dataoff f (signature_command f) = rw (← p) o in
+    let t : size ≡ datasize f (signature_command f) = rw (← p) l in
+    let w = walked f (number_passes f e) in
+    let inside : dataoff f (signature_command f) + datasize f (signature_command f) ≤ length f = rw (which_first f w) w.range_inside in
+    record {
+      command_is = p ∙ position_walks f e;
+      start_is = s ∙ start_walks f e;
+      end_is = ap₂ (λ (x y : ℕ). x + y) s t ∙ end_walks f e;
       ordered = omega arith;
       within = omega arith;
     }

@@ -9,6 +9,7 @@ use Rattle.refusals.specs.declared.Answer.{Answer}
 use Rattle.refusals.specs.Refusals.{◌<?◌, Passes, Exact, refuse, first, accepted, lowest}
 use Rattle.refusals.proofs.Conditions.{pick_yes, pick_no}
 use Rattle.refusals.proofs.Exact.{Unused, decides, passes, passed, exact}
+use Rattle.refusals.proofs.Joined.{passed_at}
 use Rattle.refusals.proofs.Results.{ok_passes}
 use Rattle.endian.specs.Numbers.{little}
 use Rattle.layout.specs.MachO.{mach_magic, mach_head, header_magic, ncmds, command_at, dataoff, datasize}
@@ -57,6 +58,10 @@ module _ (f : List ℕ) (k : ℕ) (e : k ≡ signature_command f) where
   pub wrong_none : lowest (wrong_signature f k) (ncmds f) ≡ ncmds f → lowest (wrong_signature f (signature_command f)) (ncmds f) ≡ ncmds f
   wrong_none q = rw (← e) q
 
+  pub end_first : (start size : ℕ) → start ≡ dataoff f k → size ≡ datasize f k → start + size ≡ data_end f (signature_command f)
+  unfolding data_end
+  end_first start size p q = rw (← e, p, q)
+
   -- the data read where it starts is that of the first
   pub data_first : (at start size : ℕ) → at ≡ command_at f k → start ≡ little 4 f (at + 8) → size ≡ little 4 f (at + 12)
       → (start ≡ dataoff f (signature_command f)) × (start + size ≡ data_end f (signature_command f))
@@ -67,3 +72,9 @@ module _ (f : List ℕ) (k : ℕ) (e : k ≡ signature_command f) where
 pub few_commands : (f : List ℕ) → accepted ≡ first (command_rows f) accepted → ncmds f ≤ most_commands
 unfolding command_rows
 few_commands f e = let p = ok_passes (command_rows f) (command_rows_unused f) e in omega arith
+
+pub few_answered : (f : List ℕ) (a : Answer) → a ≡ first (command_rows f) accepted → a.number ≡ 0 → ncmds f ≤ most_commands
+unfolding command_rows
+few_answered f a e z =
+    let p = passed_at (command_rows f) accepted a (command_rows_unused f) e z in
+    omega arith

@@ -149,6 +149,10 @@ judged_number marks place = by_test (holds _)
 
 -- WHAT THE ROUTINE IS LENT
 
+-- slot k of those that reach up to slot n, over their width w
+pub slot_before : (w k n most : ℕ) → w * n + w ≤ most → k ≤ n → w * k + w ≤ most
+slot_before w k n most h l = omega (arith, mul-le-mul_left {m = k} {n = n} w l)
+
 -- where a page ends, of the first n
 ends_below : (p limit k n : ℕ) → k < n → page_end p limit k ≤ min (p * n) limit
 ends_below p limit k n h =
@@ -171,6 +175,17 @@ page_of_here p limit slots first n bytes k h o u =
       here = omega arith;
       slot = omega (arith, slot_end (width slots) k (first + n) u, h.slotted);
       held = omega (arith, ends_below p limit k (first + n) u);
+    }
+
+-- where page n is there, so are those before it
+pub page_before : (p limit : ℕ) (slots : Slots) (first n : ℕ) (bytes : List ℕ) (k : ℕ) → PageHere p limit slots first n bytes → first ≤ k → k ≤ n
+    → PageHere p limit slots first k bytes
+page_before p limit slots first n bytes k h o u =
+    record {
+      after = o;
+      here = omega (arith, h.here);
+      slot = slot_before (width slots) k n _ h.slot u;
+      held = omega (arith, ends_below p limit k (n + 1) (omega arith), h.held);
     }
 
 -- all pages, in an image that reaches the limit

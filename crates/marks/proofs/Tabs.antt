@@ -83,6 +83,18 @@ tab_more first i f l v h e =
     let a : drop i l ≡ get_or l i 0 ∷ drop (i + 1) l = rw (add-one) (drop-cons l i 0 h) in
     rw (a, set_at (tab first i f) (get_or l i 0) (drop (i + 1) l) v i (tab_length first i f), tab_join first i 1 f, e, append_assoc) (tab_one (first + i) f (tab first i f) (drop (i + 1) l))
 
+-- four stores a turn
+module _ (first i : ℕ) (f : ℕ → ℕ) (l : List ℕ) where
+  next : (j k v : ℕ) → k ≡ j + 1 → j < length l → v ≡ f (first + j) → set (tab first j f ++ drop j l) j v ≡ tab first k f ++ drop k l
+  next j k v e h q = rw e (tab_more first j f l v h q)
+
+  pub tab_more_four : (m : List ℕ) → m ≡ tab first i f ++ drop i l → i + 3 < length l → {a b c d : ℕ}
+      → a ≡ f (first + i) → b ≡ f (first + (i + 1)) → c ≡ f (first + (i + 2)) → d ≡ f (first + (i + 3))
+      → set (set (set (set m i a) (i + 1) b) (i + 2) c) (i + 3) d ≡ tab first (i + 4) f ++ drop (i + 4) l
+  tab_more_four m e h {a} {b} {c} {d} ea eb ec ed =
+      rw (e, next i (i + 1) a (omega arith) (omega arith) ea, next (i + 1) (i + 2) b (omega arith) (omega arith) eb, next (i + 2) (i + 3) c (omega arith) (omega arith) ec)
+      (next (i + 3) (i + 4) d (omega arith) (omega arith) ed)
+
 -- n numbers a turn, from i to j
 pub tab_put : (first i j n k : ℕ) (f : ℕ → ℕ) (l m v : List ℕ) → m ≡ tab first i f ++ drop i l → v ≡ tab (first + i) n f → i + n ≡ j → k ≡ n
     → put_mid i k m v ≡ tab first j f ++ drop j l
@@ -98,6 +110,9 @@ tab_four n f ea eb ec ed =
     let y : n + 2 ≡ suc (suc n) = omega arith in
     let z : n + 3 ≡ suc (suc (suc n)) = omega arith in
     rw (ea, eb, ec, ed, x, y, z) refl
+
+pub four_at : (first i : ℕ) (f : ℕ → ℕ) (four : List ℕ) (k j : ℕ) → k < 4 → j ≡ i + k → four ≡ tab (first + i) 4 f → get_or four k 0 ≡ f (first + j)
+four_at first i f four k j h u e = rw e (tab_at (first + i) 4 f k 0 h ∙ ap f (omega arith))
 
 -- a list that was filled so far, as who goes on finds it
 pub tab_kept : (first i : ℕ) (f : ℕ → ℕ) (l m : List ℕ) → l ≡ tab first i f ++ drop i m → l ≡ tab first i f ++ drop i l

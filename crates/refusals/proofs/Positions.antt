@@ -40,6 +40,10 @@ module _ (f : ℕ → Cond) where
   pub lowest_stop : (n i : ℕ) → i < n → lowest f i ≡ i → true ≡ holds (f i) → i ≡ lowest f n
   lowest_stop n i h e t = sym (at_lowest n i h e t)
 
+  -- the search ends
+  pub lowest_end : (n i : ℕ) → i ≡ n → lowest f i ≡ i → i ≡ lowest f n
+  lowest_end n i q e = rw (← q) (sym e)
+
 at_or_below : (f : ℕ → Cond) (n : ℕ) (b : Bool) → b ≡ ltb (lowest f n) n → (c : Bool) → c ≡ holds (f n) → suc n ≤ or_at b (lowest f n) (or_at c n (suc n)) → (n ≤ lowest f n) × (false ≡ holds (f n))
 at_or_below f n true e c d h = absurd (let l = ltb-true (lowest f n) n (sym e) in omega arith)
 at_or_below f n false e true d h = absurd (omega arith)

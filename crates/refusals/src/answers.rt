@@ -5,7 +5,8 @@ ghost use Rattle.refusals.specs.Named.{answer_of, test_answer, place_answer};
 
 use super::{Answer, Refusal};
 
-fn answer(number: u32, place: usize) -> Answer
+// An answer in one expression.
+pub fn answer(number: u32, place: usize) -> Answer
     ensures { result ≡ refuse number place }
 {
     Answer { number, place }

@@ -4,7 +4,7 @@
 // specs/Named.antt has the number and the place of each refusal.
 #![tactic(auto)]
 
-mod answers;
+pub mod answers;
 mod refusal;
 
 pub use refusal::Refusal;

@@ -2,7 +2,7 @@
 use mathlib.Core.Path.{◌≡◌, refl, sym, ap, ap₂, ◌∙◌}
 use mathlib.Core.List.{List, [], ◌∷◌, ◌++◌, append_assoc, append-nil}
 use Prim.Native.Nat.{ℕ, zero, suc, ◌+◌, ◌-◌, ◌*◌, ◌/◌, ◌%◌, ◌^◌, ◌<◌, ◌≤◌}
-use native.Mathlib.Nat.{add_assoc, mul-add, mul-suc, mul_comm, add-zero, add-suc, mul-one, mul-zero, pow-suc, div-div-eq-div-mul}
+use native.Mathlib.Nat.{add_assoc, mul-add, mul-suc, mul_comm, add-zero, add-suc, mul-one, mul-zero, pow-zero, pow-suc, div-one, div-div-eq-div-mul}
 use native.Mathlib.Numerals.{add-one}
 use native.Mathlib.Omega.{arith}
 use lib.ListN.{length, get_or, take, drop, set, replicate, length-append, take-append-drop, get_or-append}
@@ -75,6 +75,9 @@ chain_more f h m i at ea ev er = rw (add-one i, er, ev, ea)
 pub take_copy : (s w : List ℕ) (i : ℕ) → i < length s → i < length w → take i w ≡ take i s → take (i + 1) (set w i (get_or s i 0)) ≡ take (i + 1) s
 take_copy s w i h b e = rw (add-one i, take-suc-set w i (get_or s i 0) b, e, take-suc s i 0 h)
 
+store_zero : (p : List ℕ) (k i v : ℕ) → length p ≡ i → set (p ++ replicate (k + 1) 0) i v ≡ p ++ v ∷ replicate k 0
+store_zero p k i v e = rw (add-one k) (set_at p 0 (replicate k 0) v i e)
+
 -- a number that is stored from its last byte on: a byte more, and the number without it
 pub put_more : (o : List ℕ) (at w i x : ℕ) → i < w → at + w ≤ length o
     → set (take (at + (w - i)) o ++ bytes i x ++ drop (at + w) o) (at + (w - 1 - i)) (x / 256 ^ i % 256)
@@ -107,6 +110,39 @@ unfolding bytes
 put_first o at w x =
     let k : at + (w - 0) ≡ at + w = omega arith in
     rw k (sym (ap (λ (l : List ℕ). l ++ drop (at + w) o) (append-nil (take (at + w) o)) ∙ take-append-drop (at + w) o))
+
+-- the same counted down from the last place to the first: its end, and its start
+pub put_last : (o : List ℕ) (at w i x : ℕ) {u : List ℕ} → i ≡ 0 → u ≡ take (at + i) o ++ bytes (w - i) x ++ drop (at + w) o
+    → u ≡ take at o ++ bytes w x ++ drop (at + w) o
+put_last o at w i x e h =
+    let a : at + i ≡ at = omega arith in
+    let b : w - i ≡ w = omega arith in
+    h ∙ ap₂ (λ (j k : ℕ). take j o ++ bytes k x ++ drop (at + w) o) a b
+
+pub shift_first : (w x : ℕ) → x ≡ x / 256 ^ (w - w)
+shift_first w x = let n : w - w ≡ 0 = omega arith in rw (n, pow-zero 256) (sym (div-one x))
+
+-- a byte more of a copy into zeros
+pub copy_more : (s : List ℕ) (n i : ℕ) → i < length s → i < n
+    → set (take i s ++ replicate (n - i) 0) i (get_or s i 0) ≡ take (i + 1) s ++ replicate (n - (i + 1)) 0
+copy_more s n i h b =
+    let e : n - i ≡ n - (i + 1) + 1 = omega arith in
+    rw e (store_zero (take i s) (n - (i + 1)) i (get_or s i 0) (length-take-le i s (omega arith)))
+    ∙ sym (append_snoc (take i s) (get_or s i 0) (replicate (n - (i + 1)) 0))
+    ∙ rw (add-one i, take-suc s i 0 h)
+
+-- a store over the first byte that is left of a buffer: a byte more of a copy into it, and the bit 1 behind the whole copy
+store_over : (p d : List ℕ) (i v : ℕ) → length p ≡ i → i < length d → set (p ++ drop i d) i v ≡ p ++ v ∷ drop (i + 1) d
+store_over p d i v e h = rw (drop-cons d i 0 h, add-one i) (set_at p (get_or d i 0) (drop (suc i) d) v i e)
+
+pub copy_over : (s d : List ℕ) (i : ℕ) → i < length s → i < length d → set (take i s ++ drop i d) i (get_or s i 0) ≡ take (i + 1) s ++ drop (i + 1) d
+copy_over s d i h b =
+    store_over (take i s) d i (get_or s i 0) (length-take-le i s (omega arith)) b
+    ∙ sym (append_snoc (take i s) (get_or s i 0) (drop (i + 1) d))
+    ∙ rw (add-one i, take-suc s i 0 h)
+
+pub open_end : (s d : List ℕ) (i : ℕ) → i ≡ length s → i < length d → set (take i s ++ drop i d) i 128 ≡ s ++ 128 ∷ drop (length s + 1) d
+open_end s d i e h = rw (take_all i s (omega arith), ← e) (store_over s d i 128 (omega arith) h)
 
 -- a part of a list of one number
 pub part_replicate : (k m n a : ℕ) → k + n ≤ m → take n (drop k (replicate m a)) ≡ replicate n a

@@ -2,6 +2,7 @@
 use Prim.Native.Nat.{ℕ, zero, suc, ◌+◌, ◌*◌, ◌/◌, ◌≤◌}
 use mathlib.Core.List.{List}
 use mathlib.Core.Path.{◌≡◌, refl, sym, ap, ap₂, ◌∙◌}
+use native.Mathlib.Nat.{add_comm}
 use native.Mathlib.Omega.{arith}
 use lib.ListN.{length, take}
 use lib.Seq.{length-take-le, take-take, take_all}
@@ -17,6 +18,16 @@ module _ (f : Hash) (m : List ℕ) where
   pub digest_length : f.width ≤ f.size * f.count → length (digest f m) ≡ f.width
   unfolding digest
   digest_length h = length-take-le f.width (all_bytes f.size f.count value) (omega (arith, length_all_bytes f.size f.count value))
+
+  -- the digest is at the start of the bytes of words whose first are the hash value
+  pub digest_written : (n : ℕ) (v : List ℕ) → f.width ≤ f.size * n → f.width ≤ f.size * f.count → take f.count v ≡ value
+      → take f.width (all_bytes f.size n v) ≡ digest f m
+  unfolding digest
+  digest_written n v hn hc e =
+      sym (all_bytes_front f.size n f.count f.width v hn)
+      ∙ ap (λ (k : ℕ). take f.width (all_bytes f.size k v)) (add_comm n f.count)
+      ∙ all_bytes_front f.size f.count n f.width v hc
+      ∙ ap (take f.width) (sym (all_bytes_take f.size f.count f.count v (omega arith)) ∙ ap (all_bytes f.size f.count) e)
 
 -- a digest of all bytes of the first k words, of k + j
 pub written : (z k j w : ℕ) (h u r : List ℕ) → u ≡ take k h → length u ≡ k → w ≡ z * k → r ≡ all_bytes z (length u) u → r ≡ take w (all_bytes z (k + j) h)

@@ -37,13 +37,14 @@ within_two = by_size Second (λ r h n. (omega arith, omega arith)) (λ r h n. (o
 -- the hash value of a message, from the steps that the code takes after its whole blocks
 module _ (f : Hash) (block width : ℕ) (s : Sizes f.size block width) (h rest t : List ℕ) (n end : ℕ) (el : length rest ≡ n % (16 * f.size))
     (ee : end ≡ block * ((length rest + width) / block + 1))
-    (et : take end t ≡ rest ++ (128 ∷ replicate (end - (1 + width) - length rest) 0) ++ bytes width (8 * n)) where
+    (et : take end t ≡ rest ++ (128 ∷ replicate (end - (1 + 2 * (width / 2)) - length rest) 0) ++ bytes (2 * (width / 2)) (8 * n)) where
   z : ℕ
   z = f.size
 
   tail : take end t ≡ rest ++ (128 ∷ replicate (end - (1 + 2 * z) - length rest) 0) ++ bytes (2 * z) (8 * n)
   unfolding z
-  tail = rw s.two at et
+  tail = let e : width / 2 ≡ f.size = omega (arith, s.two) in
+      rw e at et
 
   pub finished_one : (v : List ℕ) → end ≡ block → v ≡ f.block h (words f.size 16 t 0) → v ≡ chained f h (rest ++ padding f.size n)
   unfolding z

@@ -68,7 +68,7 @@ pub fn finish<F: HashFunction>(h: F::Value, rest: &[u8], n: usize) -> F::Value
     let width = F::LENGTH;
     let end = block * ((rest.len() + width) / block + 1);
     let mut t = [0u8; 256];
-    close_tail(&mut t, rest, n, end, width);
+    close_tail(&mut t, rest, n, end, width / 2);
     let v = F::compress(h, &t, 0);
     if end == block {
         return v;

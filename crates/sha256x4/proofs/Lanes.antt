@@ -1,7 +1,7 @@
 -- Laws of words that stand side by side: a word of a message, and four words written in a row, one for each message. Assumes nothing.
-use Prim.Native.Nat.{ℕ, zero, suc, ◌+◌, ◌*◌, ◌<◌}
+use Prim.Native.Nat.{ℕ, zero, suc, ◌+◌, ◌-◌, ◌*◌, ◌<◌}
 use mathlib.Core.Path.{◌≡◌, refl, sym, ap, ◌∙◌}
-use mathlib.Core.List.{List, [], ◌∷◌, ◌++◌}
+use mathlib.Core.List.{List, [], ◌∷◌, ◌++◌, append-nil}
 use mathlib.Core.Bool.{Bool, true, false}
 use mathlib.Core.Logic.{⊎_elim}
 use native.Mathlib.Nat.{add-zero, zero-add, eq-or-lt_of_le}
@@ -9,9 +9,10 @@ use native.Mathlib.Numerals.{add-one}
 use native.Mathlib.Omega.{arith}
 use lib.Dec.{eqb}
 use borrow.Author.Tests.{eqb-true, eqb-false}
-use lib.ListN.{length, get_or, set, length-append, length-set, get_or-append}
-use lib.Seq.{ext_get_or, get_or_at, get_or-set_same, get_or-set_other}
-use Rattle.sha.specs.Words.{sums}
+use lib.ListN.{length, get_or, take, set, replicate, length-append, length-set, get_or-append}
+use lib.Seq.{take_all, ext_get_or, get_or_at, get_or-set_same, get_or-set_other}
+use Rattle.sha.specs.Words.{plus, sums}
+use Rattle.sha.proofs.Blocks.{copy_more}
 use Rattle.sha256x4.specs.Lanes.{lane, Four}
 
 -- lists that grow by one element at their end: their length, and their elements
@@ -36,6 +37,14 @@ length_lane n j xs = length_grows (λ m. lane m j xs) (λ k. get_or xs (4 * k + 
 pub get_or_lane : (n j : ℕ) (xs : List ℕ) (k : ℕ) → k < n → get_or (lane n j xs) k 0 ≡ get_or xs (4 * k + j) 0
 unfolding lane
 get_or_lane n j xs k h = get_or_grows (λ m. lane m j xs) (λ i. get_or xs (4 * i + j) 0) refl (λ m. refl) n k h
+
+pub length_sums : (w n : ℕ) (h s : List ℕ) → length (sums w n h s) ≡ n
+unfolding sums
+length_sums w n h s = length_grows (λ m. sums w m h s) (λ k. plus w (get_or h k 0) (get_or s k 0)) refl (λ m. refl) n
+
+pub get_or_sums : (w n : ℕ) (h s : List ℕ) (k : ℕ) → k < n → get_or (sums w n h s) k 0 ≡ plus w (get_or h k 0) (get_or s k 0)
+unfolding sums
+get_or_sums w n h s k l = get_or_grows (λ m. sums w m h s) (λ i. plus w (get_or h i 0) (get_or s i 0)) refl (λ m. refl) n k l
 
 pub lane_same : (n j : ℕ) (z w : List ℕ) → ((k : ℕ) → k < n → get_or z (4 * k + j) 0 ≡ get_or w (4 * k + j) 0) → lane n j z ≡ lane n j w
 unfolding lane
@@ -152,6 +161,16 @@ pub gathered : (j : ℕ) (v : List ℕ)
     ≡ lane 8 j v
 unfolding lane
 gathered j v = rw (zero-add j)
+
+-- the closing sums, one after the other over zeros
+pub sums_more : (h s r : List ℕ) (i v : ℕ) → i < 32 → r ≡ take i (sums 32 32 h s) ++ replicate (32 - i) 0 → v ≡ plus 32 (get_or h i 0) (get_or s i 0)
+    → set r i v ≡ take (i + 1) (sums 32 32 h s) ++ replicate (32 - (i + 1)) 0
+sums_more h s r i v l er ev =
+    let e : v ≡ get_or (sums 32 32 h s) i 0 = ev ∙ sym (get_or_sums 32 32 h s i l) in
+    rw (er, e) (copy_more (sums 32 32 h s) 32 i (omega (arith, length_sums 32 32 h s)) l)
+
+pub sums_all : (h s r : List ℕ) (i : ℕ) → i ≡ 32 → r ≡ take i (sums 32 32 h s) ++ replicate (32 - i) 0 → r ≡ sums 32 32 h s
+sums_all h s r i e er = (rw e at er) ∙ append-nil (take 32 (sums 32 32 h s)) ∙ take_all 32 (sums 32 32 h s) (omega (arith, length_sums 32 32 h s))
 
 -- the closing sums of each message
 pub lane_sums : (h s : List ℕ) → Four (λ j. lane 8 j (sums 32 32 h s) ≡ sums 32 8 (lane 8 j h) (lane 8 j s))

@@ -11,4 +11,4 @@ mod word;
 pub use load::word_at;
 pub use sha1::Sha1;
 pub use sha256::{H256, K256, Sha256, next_word, temp1, temp2};
-pub use word::{Sigmas, add, add_words};
+pub use word::{Sigmas, add, add_words, choose, majority};

@@ -36,6 +36,33 @@ pub bytes_by : (t : Bool) (b : Bor (List ℕ)) → is_there (then_some t b) ≡ 
 bytes_by true b e = refl
 bytes_by false b e = absurd (false≢true e)
 
+-- THE FAULT
+
+-- by whether the slot's bytes are all zero, the thing is there, and the digests agree
+pub fault_empty : (z t a : Bool) → z ≡ true → t ≡ true → 23 ≡ fault_of z t a
+unfolding fault_of
+fault_empty z t a p q = rw (p, q)
+
+pub fault_none : (z t a : Bool) → z ≡ true → t ≡ false → 0 ≡ fault_of z t a
+unfolding fault_of
+fault_none z t a p q = rw (p, q)
+
+pub fault_missing : (z t a : Bool) → z ≡ false → t ≡ false → 21 ≡ fault_of z t a
+unfolding fault_of
+fault_missing z t a p q = rw (p, q)
+
+pub fault_agrees : (z t a : Bool) → z ≡ false → t ≡ true → a ≡ true → 0 ≡ fault_of z t a
+unfolding fault_of
+fault_agrees z t a p q r = rw (p, q, r)
+
+pub fault_differs : (z t a : Bool) → z ≡ false → t ≡ true → a ≡ false → 22 ≡ fault_of z t a
+unfolding fault_of
+fault_differs z t a p q r = rw (p, q, r)
+
+-- the digest by the kind that is given
+pub by_kind : (kind given : ℕ) (b slot : List ℕ) (r : Bool) → given ≡ kind → r ≡ same (digest_of given b) slot → same (digest_of kind b) slot ≡ r
+by_kind kind given b slot r e h = ap (λ (k : ℕ). same (digest_of k b) slot) (sym e) ∙ sym h
+
 -- the fault of a thing that is not there goes by the slot alone
 pub fault_same : (z t a b : Bool) → (t ≡ true → a ≡ b) → fault_of z t a ≡ fault_of z t b
 unfolding fault_of
@@ -92,9 +119,32 @@ slot_goes n k e = by_test (eqb n 0) refl e
     by_test false q h = sym (ap (λ (a : Answer). a.number) h)
 
 module _ (s d : List ℕ) (x : Sides) where
-  fault_zero : (k : ℕ) → k ≡ 0 → 0 ≡ fault s d x k
+  -- by the thing that slot k covers
+  abbrev at : ℕ → Bool → List ℕ → ℕ
+  at k t b = fault_of (all_zero (special_slot d k)) t (same (digest_of (hash_type d) b) (special_slot d k))
+
+  pub fault_zero : (k : ℕ) → k ≡ 0 → 0 ≡ fault s d x k
   unfolding fault
   fault_zero k e = rw (eq-eqb k 0 e)
+
+  pub fault_info : (k v : ℕ) → k ≡ 1 → v ≡ at k x.info_there x.info → v ≡ fault s d x k
+  unfolding fault is_empty there thing
+  fault_info k v e h = rw (ne_eqb k 0 (omega arith), eq-eqb k 1 e) h
+
+  pub fault_resources : (k v : ℕ) → k ≡ 3 → v ≡ at k x.resources_there x.resources → v ≡ fault s d x k
+  unfolding fault is_empty there thing
+  fault_resources k v e h = rw (ne_eqb k 0 (omega arith), ne_eqb k 1 (omega arith), eq-eqb k 3 e) h
+
+  pub fault_nothing : (k v : ℕ) → (k ≡ 4) ⊎ (k ≡ 6) → v ≡ at k false (blob_of s k) → v ≡ fault s d x k
+  unfolding fault is_empty there thing
+  fault_nothing k v (inl e) h = rw (ne_eqb k 0 (omega arith), ne_eqb k 1 (omega arith), ne_eqb k 3 (omega arith), eq-eqb k 4 e) h
+  fault_nothing k v (inr e) h =
+      rw (ne_eqb k 0 (omega arith), ne_eqb k 1 (omega arith), ne_eqb k 3 (omega arith), ne_eqb k 4 (omega arith), eq-eqb k 6 e) h
+
+  pub fault_blob : (k v : ℕ) → (k ≡ 0 → ⊥) → (k ≡ 1 → ⊥) → (k ≡ 3 → ⊥) → (k ≡ 4 → ⊥) → (k ≡ 6 → ⊥)
+      → v ≡ at k (holds (has s k)) (blob_of s k) → v ≡ fault s d x k
+  unfolding fault is_empty there thing
+  fault_blob k v h0 h1 h3 h4 h6 h = rw (ne_eqb k 0 h0, ne_eqb k 1 h1, ne_eqb k 3 h3, ne_eqb k 4 h4, ne_eqb k 6 h6) h
 
   -- slot k, from 1 on, by its thing where it is there
   pub fault_by : (k kind : ℕ) (slot : List ℕ) (t : Bool) (b : List ℕ) → 0 < k → kind ≡ hash_type d → slot ≡ special_slot d k
@@ -108,8 +158,8 @@ module _ (s d : List ℕ) (x : Sides) where
   pub first_slot : lowest (faulty (fault s d x)) 1 ≡ 1
   first_slot = lowest_more (faulty (fault s d x)) 0 (lowest_none (faulty (fault s d x))) (says false (faulty (fault s d x) 0) (sym (fault_zero 0 refl)))
 
-  slot_fails : (k : ℕ) → (fault s d x k ≡ 0 → ⊥) → true ≡ holds (faulty (fault s d x) k)
-  slot_fails k h = says true (faulty (fault s d x) k) h
+  pub slot_fails : (k v : ℕ) → v ≡ fault s d x k → (v ≡ 0 → ⊥) → true ≡ holds (faulty (fault s d x) k)
+  slot_fails k v e h = says true (faulty (fault s d x) k) (λ z. h (e ∙ z))
 
   pub slot_passes : (k : ℕ) → lowest (faulty (fault s d x)) k ≡ k → accepted ≡ slot_answer (fault s d x k) k → lowest (faulty (fault s d x)) (k + 1) ≡ k + 1
   slot_passes k h e = lowest_more (faulty (fault s d x)) k h (says false (faulty (fault s d x) k) (slot_goes (fault s d x k) k e))
@@ -127,5 +177,5 @@ module _ (s d : List ℕ) (x : Sides) where
   unfolding special_rows
   slots_refuse k r h e q =
       let w = slot_refuses (fault s d x k) k r q in
-      let at = lowest_stop (faulty (fault s d x)) 12 k h e (slot_fails k w.0) in
+      let at = lowest_stop (faulty (fault s d x)) 12 k h e (slot_fails k (fault s d x k) refl w.0) in
       w.1 ∙ fault_decides 12 (fault s d x) (21 ∷ 22 ∷ 23 ∷ []) accepted (fault s d x k) k at h refl w.0 (fault_known s d x k)

@@ -2,11 +2,11 @@
 -- that is there, 0 where none is.
 use Rattle.std.specs.Prelude.{ℕ, Option, MatchOption, ◌+◌, ◌-◌, ◌<◌, ◌≤◌, List, [], ◌∷◌, ◌++◌, ◌≡◌, length, take, drop}
 use Rattle.std.specs.Option.{is_some}
-use Rattle.std.specs.declared.ops.Range.{Range as Span}
 use Rattle.refusals.specs.Ranges.{Range, range, lookup}
 use Rattle.refusals.specs.Refusals.{◌<?◌, ◌≡?◌, ◌≢?◌, ◌and◌, ◌or◌, Cond, holds, pick, lowest, Row, row, over, first, accepted}
 use Rattle.layout.specs.SuperBlob.{super_magic, super_head, blob_head, requirements_magic, entitlements_magic, der_entitlements_magic, launch_constraint_magic, blob_wrapper_magic, first_alternate, last_alternate, cms_type, magic, super_length, count, index_end, type_at, offset_at, blob_magic, blob_length}
 use Rattle.layout.specs.CodeDirectory.{directory_magic, directory_type}
+use Rattle.superblob.specs.declared.Span.{Span}
 
 -- LIMITS
 
@@ -138,17 +138,17 @@ unfoldable pub blob : List ℕ → ℕ → List ℕ
 blob s t = take (blob_end s t - blob_start s t) (drop (blob_start s t) s)
 
 -- where it lies, as the code says it
-pub record Found (s : List ℕ) (t : ℕ) (r : Span ℕ) : Type 0 where
+pub record Found (s : List ℕ) (t : ℕ) (r : Span) : Type 0 where
   pub start_is : r.start ≡ blob_start s t
   pub end_is : r.end ≡ blob_end s t
   pub ordered : r.start ≤ r.end
   pub within : r.end ≤ length s
 
 -- where there is none
-abbrev pub nowhere : Span ℕ
+abbrev pub nowhere : Span
 nowhere = record { start = 0; end = 0 }
 
 -- what the lookup of the code says: where the blob lies exactly where there is one
-pub record Located (s : List ℕ) (t : ℕ) (r : Option (Span ℕ)) : Type 0 where
+pub record Located (s : List ℕ) (t : ℕ) (r : Option Span) : Type 0 where
   pub found : MatchOption r (Found s t nowhere) (Found s t)
   pub there : is_some r ≡ holds (present s t)

@@ -16,7 +16,6 @@ use layout::directory::CodeDirectory;
 use layout::parts::part;
 use layout::superblob::{Blob, BlobIndex, SuperBlob};
 use refusals::Refusal;
-use std::ops::Range;
 
 // The longest signature that is read.
 const MOST_SIGNATURE: usize = 67108864;
@@ -35,14 +34,24 @@ pub fn tested(sig: &[u8], side: usize) -> Result<(), Refusal>
     index_tested(sig)
 }
 
-// Where the blob of a type lies in the signature; nothing where tests 1 to 9 do not pass or the index has no such type.
-pub fn find_span(sig: &[u8], slot_type: u32) -> Option<Range<usize>>
+// Where a blob lies in the signature: from `start` up to `end`. A struct and no `Range`, which is not Copy.
+#[derive(Clone, Copy)]
+pub struct Span {
+    pub start: usize,
+    pub end: usize,
+}
+
+// Where the blob of a type lies; nothing where tests 1 to 9 do not pass or the index has no such type.
+pub fn find_span(sig: &[u8], slot_type: u32) -> Option<Span>
     ensures { Located sig.now slot_type result }
 {
     tested(sig, 0).ok()?;
     let i = find_position(sig, slot_type as usize)?;
     let start = offset_at(sig, i);
-    Some(start..start + length_at(sig, i))
+    Some(Span {
+        start,
+        end: start + length_at(sig, i),
+    })
 }
 
 // The blob of a type, its head included; empty, as `blob` has it, where tests 1 to 9 do not pass or the index has no such type.
@@ -50,7 +59,7 @@ pub fn find<'a>(sig: &'a [u8], slot_type: u32) -> &'a [u8]
     ensures { result.now ≡ blob sig.now slot_type }
 {
     match find_span(sig, slot_type) {
-        Some(span) => &sig[span],
+        Some(span) => &sig[span.start..span.end],
         None => &[],
     }
 }

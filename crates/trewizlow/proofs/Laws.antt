@@ -8,10 +8,10 @@ use lib.ListN.{length, drop, replicate, length-drop}
 use lib.Seq.{length-take-le}
 use Rattle.std.specs.Prelude.{Option, None, Some}
 use Rattle.std.specs.Option.{unwrap_or}
-use Rattle.std.specs.declared.ops.Range.{Range}
 use Rattle.refusals.specs.declared.Answer.{Answer}
 use Rattle.refusals.specs.Refusals.{◌≡?◌}
 use Rattle.refusals.proofs.Conditions.{says}
+use Rattle.superblob.specs.declared.Span.{Span}
 use Rattle.superblob.specs.Rows.{Found, nowhere, Located, start_of, blob_start, blob_end, blob}
 use Rattle.layout.specs.CodeDirectory.{directory_type}
 use Rattle.layout.specs.TrustCache.{cdhash_length}
@@ -20,11 +20,11 @@ use Rattle.cdhash.specs.Hash.{cdhash}
 use Rattle.trewizlow.specs.Interface.{read_answer, readable, fields_of, no_fields, directory_fields, hash_with, directory_hash}
 
 -- where the blob lies, nowhere where there is none
-pub located : (s : List ℕ) (t : ℕ) (r : Option (Range ℕ)) → Located s t r → Found s t (unwrap_or r nowhere)
+pub located : (s : List ℕ) (t : ℕ) (r : Option Span) → Located s t r → Found s t (unwrap_or r nowhere)
 located s t None l = l.found
 located s t (Some span) l = l.found
 
-pub span_length : (s : List ℕ) (t : ℕ) (r : Range ℕ) → Found s t r → r.end - r.start ≡ length (blob s t)
+pub span_length : (s : List ℕ) (t : ℕ) (r : Span) → Found s t r → r.end - r.start ≡ length (blob s t)
 unfolding blob
 span_length s t r f =
     ap₂ (λ (e a : ℕ). e - a) f.end_is f.start_is

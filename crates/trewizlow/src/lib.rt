@@ -18,6 +18,7 @@ use admission::{Beside, Verdict};
 use layout::directory::CodeDirectory;
 use refusals::Answer;
 use slots::SideFiles;
+use superblob::Span;
 use trustcache::Launch;
 
 // The whole check.
@@ -119,7 +120,7 @@ pub fn trewizlow_find(signature: &[u8], slot_type: u32) -> BlobPart
     ensures { result ≡ blob_part signature.now slot_type }
 {
     let answer = Answer::from(superblob::tested(signature, 0));
-    let span = superblob::find_span(signature, slot_type).unwrap_or(0..0);
+    let span = superblob::find_span(signature, slot_type).unwrap_or(Span { start: 0, end: 0 });
     BlobPart {
         number: answer.number,
         place: answer.place,

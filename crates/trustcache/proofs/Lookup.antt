@@ -94,6 +94,9 @@ module _ (c h : List ℕ) (low high : ℕ) (s : Searching c h low high) (l : low
               ⊎_elim (λ p. rw (← p) b) (λ w. below_trans h (hash_at c mid) (hash_at c k) b (f.increasing mid k w v)) (eq-or-lt_of_le u);
         }
 
+    pub search_else : (r ≡ equal → ⊥) → (r ≡ below → ⊥) → Searching c h low mid
+    search_else n q = search_above (omega (arith, stands.small))
+
     pub search_found : r ≡ equal → EntryFound c h mid
     search_found q =
         let b : mid < entry_count c = omega (arith, s.inside) in

@@ -78,17 +78,17 @@ module _ (c : List ℕ) (f : AllBytes c) (i j k a b : ℕ) (s : SameTo (4 * k) (
   right : b ≡ big 4 (hash_at c j) (4 * k)
   right = q ∙ hash_number c j 4 (4 * k) (omega arith)
 
-  numbers_below : a < b → below ≡ order (hash_at c i) (hash_at c j)
+  pub numbers_below : a < b → below ≡ order (hash_at c i) (hash_at c j)
   numbers_below h =
       order_below (hash_at c i) (hash_at c j)
       (number_less (hash_at c i) (hash_at c j) (hash_bytes c i f) (hash_bytes c j f) (4 * k) s 4 (omega arith) (omega (arith, left, right)))
 
-  numbers_above : b < a → above ≡ order (hash_at c i) (hash_at c j)
+  pub numbers_above : b < a → above ≡ order (hash_at c i) (hash_at c j)
   numbers_above h =
       order_above (hash_at c i) (hash_at c j)
       (number_less (hash_at c j) (hash_at c i) (hash_bytes c j f) (hash_bytes c i f) (4 * k) (same_back (hash_at c i) (hash_at c j) (4 * k) s) 4 (omega arith) (omega (arith, left, right)))
 
-  numbers_more : a ≡ b → SameTo (4 * (k + 1)) (hash_at c i) (hash_at c j)
+  pub numbers_more : a ≡ b → SameTo (4 * (k + 1)) (hash_at c i) (hash_at c j)
   numbers_more h =
       subst (λ (n : ℕ). SameTo n (hash_at c i) (hash_at c j)) (omega arith)
       (number_same (hash_at c i) (hash_at c j) (hash_bytes c i f) (hash_bytes c j f) (4 * k) s 4 (omega arith) (omega (arith, left, right)))

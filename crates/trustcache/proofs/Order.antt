@@ -171,13 +171,13 @@ module _ (x y : List ℕ) (i a b : ℕ) (s : SameTo i x y) (p : a ≡ get_or x (
   right : b ≡ get_or y i 0
   right = q ∙ ap (λ (k : ℕ). get_or y k 0) (zero-add i)
 
-  compare_below : i < cdhash_length → a < b → below ≡ order x y
+  pub compare_below : i < cdhash_length → a < b → below ≡ order x y
   compare_below l h = order_below x y (less_at x y i s l (omega (arith, left, right)))
 
-  compare_above : i < cdhash_length → b < a → above ≡ order x y
+  pub compare_above : i < cdhash_length → b < a → above ≡ order x y
   compare_above l h = order_above x y (less_at y x i (same_back x y i s) l (omega (arith, left, right)))
 
-  compare_more : a ≡ b → SameTo (i + 1) x y
+  pub compare_more : a ≡ b → SameTo (i + 1) x y
   compare_more h = same_more x y i s (sym left ∙ h ∙ right)
 
   -- .. by one comparison of the two
@@ -203,6 +203,15 @@ first_is_above c i e = says false (not_above c i) (λ z. absurd (omega arith))
 -- what a comparison says of the hashes that it is lent it says of the entries
 pub compared : (c x y : List ℕ) (i j r : ℕ) → x ≡ hash_at c i → y ≡ hash_at c j → r ≡ order x y → r ≡ order (hash_at c i) (hash_at c j)
 compared c x y i j r e f o = o ∙ ap (λ (l : List ℕ). order l y) e ∙ ap (order (hash_at c i)) f
+
+module _ (c : List ℕ) (i r : ℕ) (o : r ≡ order (hash_at c i) (hash_at c (i - 1))) where
+  pub is_above : r ≡ above → false ≡ holds (not_above c i)
+  unfolding not_above
+  is_above q = says false (not_above c i) (λ z. sym o ∙ q)
+
+  pub is_not_above : (i ≡ 0 → ⊥) → (r ≡ above → ⊥) → true ≡ holds (not_above c i)
+  unfolding not_above
+  is_not_above n q = says true (not_above c i) (omega arith, λ z. q (o ∙ z))
 
 pub not_above_is : (c : List ℕ) (i : ℕ) (o : Ordering) → order_number o ≡ order (hash_at c i) (hash_at c (i - 1)) → (i ≡ 0 → ⊥) → is_le o ≡ holds (not_above c i)
 unfolding not_above

@@ -1,6 +1,7 @@
 -- Each way is one law of its kind. Assumes nothing.
 use Rattle.std.proofs.Common.{◌≡◌, ℕ, take, length, length-take-le, sym, ap, ◌∙◌, arith, rules}
-use Rattle.layout.specs.CodeDirectory.{width_of}
+use Rattle.layout.specs.CodeDirectory.{slot_widths, width_of}
+use Rattle.refusals.specs.Ranges.{lookup}
 use Rattle.sha.specs.Sha2.{sha256}
 use Rattle.digest.specs.Kinds.{digest_of}
 use Rattle.digest.proofs.ByKind.{of_kind, cut_kind, kinds_plainly, middle_sha256, of_cut, of_none, of_sha384}
@@ -15,12 +16,14 @@ returns-in-Sha1 c = let m = c.args.part.now in
     extended _ m _ _ (c.digest.ensures ∙ sym (kinds_plainly.by_sha1 m) ∙ ap (λ (k : ℕ). digest_of k m) (of_kind c.in-Sha1.is c.in-Some.ensures.known)) c.extend.ensures
 
 pub slice_bounds-extend-end-in-Sha256 : goal.slice_bounds-extend-end-in-Sha256
+unfolding width_of slot_widths lookup
 slice_bounds-extend-end-in-Sha256 c = let n : length c.digest-in-Sha256.result ≡ 32 = search rules in
     let k = cut_kind _ _ c.in-Sha256.is c.in-Some.ensures.known in
     let q = middle_sha256 c.args.kind k.0 k.1 in
     omega (arith, n, q.1, ap width_of c.in-Some.ensures.known, c.width.ensures.value)
 
 pub slice_bounds-extend-end-in-Sha256-2 : goal.slice_bounds-extend-end-in-Sha256-2
+unfolding width_of slot_widths lookup
 slice_bounds-extend-end-in-Sha256-2 c = let n : length c.digest-in-Sha256.result ≡ 32 = search rules in
     let k = cut_kind _ _ c.in-Sha256.is c.in-Some.ensures.known in
     let q = middle_sha256 c.args.kind k.0 k.1 in

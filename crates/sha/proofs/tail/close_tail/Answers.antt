@@ -14,5 +14,5 @@ pub returns : goal.returns
 returns c = let p = c.put_number in
     let o = c.open_tail in
     let a = c.args in
-    closed_of a.width a.rest.now a.out.now o.new.out p.new.out a.n a.e _ _
+    closed_of a.z a.rest.now a.out.now o.new.out p.new.out a.n a.e _ _
     (omega arith) (omega arith) (omega arith) (omega arith) c.requires.0 o.ensures p.ensures (omega arith) (omega arith)
