@@ -134,7 +134,9 @@ pub fn check_tested(
     parts_tested(lent, image_length, Origin::Apart, marks_length)
 }
 
-// Tests 1 to 18, then 19 or 41 by where the image comes from, then 20 to 30; where they pass, the directory's entry.
+// Tests 1 to 18, then 19 or 41 by where the image comes from, then 20 to 30; where they pass, the directory's entry. It is not compiled into
+// `check_parts`: its frame would lie beneath the hashing of the pages.
+#[inline(never)]
 fn parts_tested(
     lent: Beside<'_>,
     image_length: usize,
