@@ -98,40 +98,47 @@ bytes_length w n =
 
 -- the last blocks, from stores over zeros (o): of a message's last bytes and the bit 1 (t), of the length's bytes but the last (u, hi), and of
 -- that (lo)
-module _ (z : ℕ) (rest o t u : List ℕ) (n e hi lo : ℕ) (pos : 0 < z) (le : length rest + 1 + 2 * z ≤ e) (ge : e ≤ length o) (gu : e ≤ length u)
+module _ (width : ℕ) (rest o t u : List ℕ) (n e hi lo : ℕ) (pos : 0 < width) (le : length rest + 1 + width ≤ e) (ge : e ≤ length o) (gu : e ≤ length u)
     (eo : o ≡ replicate (length o) 0) (et : t ≡ rest ++ 128 ∷ drop (length rest + 1) o)
-    (eu : u ≡ take (e - 2 * z) t ++ bytes (2 * z - 1) hi ++ drop (e - 2 * z + (2 * z - 1)) t) (ehi : hi ≡ n / 32) (elo : lo ≡ n % 32 * 8) where
+    (eu : u ≡ take (e - width) t ++ bytes (width - 1) hi ++ drop (e - width + (width - 1)) t) (ehi : hi ≡ n / 32) (elo : lo ≡ n % 32 * 8) where
   zs : ℕ
-  zs = e - (1 + 2 * z) - length rest
+  zs = e - (1 + width) - length rest
 
-  front : take (e - 2 * z) t ≡ rest ++ 128 ∷ replicate zs 0
+  front : take (e - width) t ≡ rest ++ 128 ∷ replicate zs 0
   unfolding zs
   front =
-      let i : e - 2 * z ≡ length rest + suc zs = omega arith in
+      let i : e - width ≡ length rest + suc zs = omega arith in
       let d : List ℕ = drop (length rest + 1) o in
       let f : take zs d ≡ replicate zs 0 =
       ap (λ (l : List ℕ). take zs (drop (length rest + 1) l)) eo ∙ part_replicate (length rest + 1) (length o) zs 0 (omega arith) in
       rw (et, i, take-append-add rest (128 ∷ d) (suc zs), f)
 
-  long : length (rest ++ 128 ∷ replicate zs 0) ≡ e - 2 * z
+  long : length (rest ++ 128 ∷ replicate zs 0) ≡ e - width
   unfolding zs
   long = simp (length-append, length-replicate) (omega arith)
 
-  pub closed_of : take e (set u (e - 1) lo) ≡ rest ++ (128 ∷ replicate (e - (1 + 2 * z) - length rest) 0) ++ bytes (2 * z) (8 * n)
+  pub closed_of : take e (set u (e - 1) lo) ≡ rest ++ (128 ∷ replicate (e - (1 + width) - length rest) 0) ++ bytes (width) (8 * n)
   unfolding zs
   closed_of =
       let p : List ℕ = rest ++ 128 ∷ replicate zs 0 in
-      let q : List ℕ = bytes (2 * z - 1) hi in
-      let d : List ℕ = drop (e - 2 * z + (2 * z - 1)) t in
+      let q : List ℕ = bytes (width - 1) hi in
+      let d : List ℕ = drop (e - width + (width - 1)) t in
       let fu : u ≡ p ++ q ++ d = eu ∙ ap (λ (l : List ℕ). l ++ q ++ d) front in
-      let lp : length (p ++ q) ≡ e - 1 = length-append p q ∙ omega (arith, long, length_bytes (2 * z - 1) hi) in
+      let lp : length (p ++ q) ≡ e - 1 = length-append p q ∙ omega (arith, long, length_bytes (width - 1) hi) in
       let s : e ≡ suc (e - 1) = omega arith in
-      let w : 2 * z ≡ 2 * z - 1 + 1 = omega arith in
+      let w : width ≡ width - 1 + 1 = omega arith in
       ap (λ (x : ℕ). take x (set u (e - 1) lo)) s
       ∙ take-suc-set u (e - 1) lo (omega arith)
       ∙ ap (λ (l : List ℕ). l ++ (lo ∷ [])) (ap (take (e - 1)) fu ∙ take_at (p ++ q) d (e - 1) lp)
       ∙ append_assoc p q (lo ∷ [])
-      ∙ ap (λ (l : List ℕ). p ++ l) (rw (ehi, elo) (bytes_length (2 * z - 1) n) ∙ ap (λ (x : ℕ). bytes x (8 * n)) (sym w))
+      ∙ ap (λ (l : List ℕ). p ++ l) (rw (ehi, elo) (bytes_length (width - 1) n) ∙ ap (λ (x : ℕ). bytes x (8 * n)) (sym w))
+
+-- the same over z, the bytes of a word, of which the length has two
+module _ (z : ℕ) (rest o t u : List ℕ) (n e hi lo : ℕ) (pos : 0 < z) (le : length rest + 1 + 2 * z ≤ e) (ge : e ≤ length o) (gu : e ≤ length u)
+    (eo : o ≡ replicate (length o) 0) (et : t ≡ rest ++ 128 ∷ drop (length rest + 1) o)
+    (eu : u ≡ take (e - 2 * z) t ++ bytes (2 * z - 1) hi ++ drop (e - 2 * z + (2 * z - 1)) t) (ehi : hi ≡ n / 32) (elo : lo ≡ n % 32 * 8) where
+  pub closed_words : take e (set u (e - 1) lo) ≡ rest ++ (128 ∷ replicate (e - (1 + 2 * z) - length rest) 0) ++ bytes (2 * z) (8 * n)
+  closed_words = closed_of (2 * z) rest o t u n e hi lo (omega (arith, pos)) le ge gu eo et eu ehi elo
 
 -- the last blocks are the last bytes and the padding
 padded_tail : (z : ℕ) (rest : List ℕ) (n j : ℕ) → j ≡ (30 * z - 1 - n % (16 * z)) % (16 * z)
